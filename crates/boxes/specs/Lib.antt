@@ -1,0 +1,4 @@
+pub mod Size
+pub mod Header
+pub mod Boxed
+pub mod ReadBack

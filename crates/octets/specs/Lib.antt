@@ -1,0 +1,5 @@
+pub mod BigEndian
+pub mod BigEndianLaws
+pub mod Overwrite
+pub mod OverwriteLaws
+pub mod Part

@@ -1,0 +1,21 @@
+/* The exported functions of Bustardcase. docs/ABI.md has the numbers and layouts. */
+#ifndef BUSTARDCASE_H
+#define BUSTARDCASE_H
+
+#include <stddef.h>
+#include <stdint.h>
+
+#ifdef __cplusplus
+extern "C" {
+#endif
+
+/* Each function returns refusal * 2^32 + length: the length written under refusal 0, the needed one under 16, else 0. */
+
+/* Reads the header of the box at `start`, and writes it as 45 bytes. Refusals 1 to 4 and 16. */
+uint64_t bustardcase_box_header(const uint8_t *buf, size_t buf_len, size_t start, uint8_t *out, size_t out_len);
+
+#ifdef __cplusplus
+}
+#endif
+
+#endif
