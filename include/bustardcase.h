@@ -14,6 +14,9 @@ extern "C" {
 /* Reads the header of the box at `start`, and writes it as 45 bytes. Refusals 1 to 4 and 16. */
 uint64_t bustardcase_box_header(const uint8_t *buf, size_t buf_len, size_t start, uint8_t *out, size_t out_len);
 
+/* Reads a `mini` payload, and writes its record as 441 bytes. Refusals 5 to 9 and 16. */
+uint64_t bustardcase_read(const uint8_t *payload, size_t payload_len, uint8_t *out, size_t out_len);
+
 #ifdef __cplusplus
 }
 #endif

@@ -77,7 +77,11 @@ fn cut<'a>(text: &'a str, start: &str) -> &'a str {
     let at = places
         .find(|&at| at == 0 || text.as_bytes()[at - 1] == b'\n')
         .unwrap_or_else(|| panic!("no item begins with '{start}'"));
-    let end = if start.contains("fn ") { "\n}\n" } else { ";\n" };
+    let end = if start.contains("fn ") {
+        "\n}\n"
+    } else {
+        ";\n"
+    };
     let len = text[at..]
         .find(end)
         .unwrap_or_else(|| panic!("the item '{start}' has no end"));

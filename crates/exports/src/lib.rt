@@ -1,12 +1,17 @@
 // The functions that C and Rust programs call, on numbers and byte slices. docs/ABI.md has their numbers and layouts.
 mod answer;
-mod header;
 
 ghost use mathlib.Core.Path.{_≡_};
 ghost use Rattle.boxes.specs.Header.{headerAt};
 ghost use Rattle.exports.specs.Answer.{Answered};
-ghost use Rattle.exports.specs.HeaderBytes.{headerBytes};
+ghost use Rattle.mini.specs.Read.{readMini};
+ghost use Rattle.layout.specs.HeaderBytes.{headerBytes};
+ghost use Rattle.layout.specs.RecordBytes.{recordBytes};
 use boxes::parse_box_header;
+use layout::header::put_header;
+use layout::record::put_record;
+use layout::record::record_len;
+use reader::parse;
 
 // Reads the header of the box at `start` of `buf`, for every buffer and every start.
 #[no_mangle]
@@ -22,6 +27,25 @@ pub extern "C" fn bustardcase_box_header(buf: &[u8], start: usize, out: &mut [u8
     if out.len() < 45 {
         return answer::too_short(45);
     }
-    header::put_header(out, 0, header);
+    put_header(out, 0, header);
     45
+}
+
+// Reads a payload to its record, for every payload.
+#[no_mangle]
+pub extern "C" fn bustardcase_read(payload: &[u8], out: &mut [u8]) -> u64
+    ensures { λ r. ⌜ Answered (readMini (now (payload .entry)) .refusal) (recordBytes (readMini (now (payload .entry)) .image)) (now (out .entry)) (now (out .exit)) r ⌝ }
+{
+    let reading = parse(payload);
+    let refusal = reading.refusal;
+    let image = reading.image;
+    if refusal != 0 {
+        return answer::refused(refusal);
+    }
+    let needed = record_len(image);
+    if out.len() < needed {
+        return answer::too_short(needed);
+    }
+    put_record(out, 0, image);
+    needed as u64
 }

@@ -44,20 +44,53 @@ fn box_header_agrees(text: &[u8], at: usize) -> bool
     holds(&out, &want[0..m])
 }
 
+// One line: a payload, the number of a refusal, and the record's bytes.
+fn reading_agrees(text: &[u8], at: usize) -> bool
+    requires { ⌜ at ≤ length (now text) ⌝ }
+{
+    let mut payload = [0u8; 256];
+    let mut want = [0u8; 512];
+    let mut out = [0xa5u8; 512];
+    let p = table::hex(text, at, &mut payload);
+    let refusal = table::decimal(text, table::after(text, p.next, b' '));
+    let w = table::hex(text, table::after(text, refusal.next, b' '), &mut want);
+    let n = p.len;
+    let m = w.len;
+    let answer = exports::bustardcase_read(&payload[0..n], &mut out);
+    if answer != refusal.value % 256 * 4294967296 + m as u64 {
+        return false;
+    }
+    holds(&out, &want[0..m])
+}
+
+pub enum Kind {
+    BoxHeaders,
+    Readings,
+}
+
+fn line_agrees(kind: Kind, text: &[u8], at: usize) -> bool
+    requires { ⌜ at ≤ length (now text) ⌝ }
+{
+    match kind {
+        Kind::BoxHeaders => box_header_agrees(text, at),
+        Kind::Readings => reading_agrees(text, at),
+    }
+}
+
 pub struct Tally {
     pub lines: u64,
     pub differ: u64,
 }
 
 // Every line of a table but the comments, which begin with '#'.
-fn box_headers(text: &[u8]) -> Tally {
+fn replay(kind: Kind, text: &[u8]) -> Tally {
     let mut lines: u64 = 0;
     let mut differ: u64 = 0;
     let mut at = 0;
     while at < text.len() {
         if text[at] != b'#' {
             lines = std::num::wrapping_add_u64(lines, 1);
-            if !box_header_agrees(text, at) {
+            if !line_agrees(kind, text, at) {
                 differ = std::num::wrapping_add_u64(differ, 1);
             }
         }
@@ -74,8 +107,8 @@ fn print(name: &[u8], t: Tally) {
     io::write_all(STDOUT_FILENO, b" differ\n");
 }
 
-fn replay_box_headers(path: &[u8]) {
-    let mut text = io::large_buffer();
+fn replay_file(name: &[u8], path: &[u8], kind: Kind) {
+    let mut text = [0u8; 262144];
     let file = os::open_read(path);
     if file < 0 {
         os::fail(path);
@@ -83,9 +116,10 @@ fn replay_box_headers(path: &[u8]) {
     }
     let n = io::read_full(file, &mut text);
     libc::close(file);
-    print(b"box headers: ", box_headers(&text[..n]));
+    print(name, replay(kind, &text[..n]));
 }
 
 fn main() {
-    replay_box_headers(b"box_headers.txt");
+    replay_file(b"box headers: ", b"box_headers.txt", Kind::BoxHeaders);
+    replay_file(b"readings: ", b"readings.txt", Kind::Readings);
 }

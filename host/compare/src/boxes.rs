@@ -4,6 +4,7 @@ use crate::check::Checker;
 use oracle::answer::Answer;
 use oracle::box_cases;
 use oracle::boxes::{HEADER_LEN, box_header};
+use oracle::fields;
 use oracle::hex::hex;
 
 /// How many random buffers and starts.
@@ -13,7 +14,13 @@ const RANDOM: u64 = 1_500_000;
 const LEAST: u64 = 1_000;
 
 /// Outputs to lend: none, one byte short, exact, and longer.
-const OUTPUTS: [usize; 5] = [0, HEADER_LEN - 1, HEADER_LEN, HEADER_LEN + 1, HEADER_LEN + 19];
+const OUTPUTS: [usize; 5] = [
+    0,
+    HEADER_LEN - 1,
+    HEADER_LEN,
+    HEADER_LEN + 1,
+    HEADER_LEN + 19,
+];
 
 struct Run {
     checker: Checker,
@@ -30,7 +37,7 @@ struct Outcomes {
 
 pub fn compare() -> Result<(), String> {
     let mut run = Run {
-        checker: Checker::new(),
+        checker: Checker::new(fields::of_box_header),
         outcomes: Outcomes::default(),
     };
     box_cases::grid(&mut |b, s| run.case(b, s))?;
@@ -70,7 +77,10 @@ impl Run {
         for number in 1..=4 {
             line += &format!(" refusal {number}: {},", seen.refused[number]);
         }
-        println!("{line} a header: {}, with extended type: {}", seen.plain, seen.extended);
+        println!(
+            "{line} a header: {}, with extended type: {}",
+            seen.plain, seen.extended
+        );
         if seen.least() < least {
             return Err(format!("an outcome occurs fewer than {least} times"));
         }
@@ -93,7 +103,9 @@ impl Outcomes {
 
     fn least(&self) -> u64 {
         let refused = self.refused[1..].iter().min();
-        self.plain.min(self.extended).min(*refused.expect("four numbers"))
+        self.plain
+            .min(self.extended)
+            .min(*refused.expect("four numbers"))
     }
 }
 
@@ -103,7 +115,11 @@ fn with_input(buf: &[u8], start: usize, message: String) -> String {
         hex(buf)
     } else {
         let near = buf.get(start..buf.len().min(start.saturating_add(32)));
-        format!("{} bytes, zero but from the start {}", buf.len(), hex(near.unwrap_or_default()))
+        format!(
+            "{} bytes, zero but from the start {}",
+            buf.len(),
+            hex(near.unwrap_or_default())
+        )
     };
     format!("buffer {shown}\nstart {start}\n{message}")
 }

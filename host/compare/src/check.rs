@@ -3,18 +3,23 @@
 use oracle::answer::Answer;
 use oracle::hex::hex;
 
+/// The name of the field that a byte of the output belongs to.
+pub type FieldName = fn(usize) -> String;
+
 /// An output to lend, filled anew before each call, and the count of calls.
 pub struct Checker {
     out: Vec<u8>,
     fills: [Vec<u8>; 2],
+    field: FieldName,
     pub calls: u64,
 }
 
 impl Checker {
-    pub fn new() -> Self {
+    pub fn new(field: FieldName) -> Self {
         Checker {
             out: Vec::new(),
             fills: [Vec::new(), Vec::new()],
+            field,
             calls: 0,
         }
     }
@@ -29,7 +34,9 @@ impl Checker {
         call: impl FnOnce(&mut [u8]) -> u64,
     ) -> Result<(), String> {
         self.grow(out_len);
-        let fill = &self.fills[(self.calls % 2) as usize][..out_len];
+        // Shifted by one after every two calls, since a case may take two.
+        let turn = (self.calls + self.calls / 2) % 2;
+        let fill = &self.fills[turn as usize][..out_len];
         let out = &mut self.out[..out_len];
         self.calls += 1;
         out.copy_from_slice(fill);
@@ -39,7 +46,7 @@ impl Checker {
         if word == answer.word(out_len) && head == written && rest == &fill[written.len()..] {
             return Ok(());
         }
-        Err(difference(answer, word, out, fill))
+        Err(difference(answer, word, out, fill, self.field))
     }
 
     fn grow(&mut self, out_len: usize) {
@@ -51,13 +58,13 @@ impl Checker {
     }
 }
 
-fn difference(answer: &Answer, word: u64, out: &[u8], fill: &[u8]) -> String {
+fn difference(answer: &Answer, word: u64, out: &[u8], fill: &[u8], field: FieldName) -> String {
     let written = answer.written(out.len());
     let mut expected = fill.to_vec();
     expected[..written.len()].copy_from_slice(written);
     let at = expected.iter().zip(out).position(|(a, b)| a != b);
     let place = match at {
-        Some(at) => format!("the outputs differ first at byte {at}"),
+        Some(at) => format!("the outputs differ first at byte {at} ({})", field(at)),
         None => "the outputs are equal".to_string(),
     };
     format!(

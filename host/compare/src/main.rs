@@ -3,6 +3,10 @@
 
 mod boxes;
 mod check;
+#[cfg(feature = "read")]
+mod features;
+#[cfg(feature = "read")]
+mod read;
 
 use std::process::ExitCode;
 use std::time::Instant;
@@ -10,7 +14,11 @@ use std::time::Instant;
 type Part = (&'static str, fn() -> Result<(), String>);
 
 /// The parts that this build has, in order.
-const PARTS: &[Part] = &[("boxes", boxes::compare)];
+const PARTS: &[Part] = &[
+    ("boxes", boxes::compare),
+    #[cfg(feature = "read")]
+    ("read", read::compare),
+];
 
 fn main() -> ExitCode {
     let names: Vec<String> = std::env::args().skip(1).collect();
@@ -25,7 +33,10 @@ fn main() -> ExitCode {
             println!("{name}: FAILED\n{message}");
             return ExitCode::FAILURE;
         }
-        println!("{name}: no difference ({:.1} s)", begin.elapsed().as_secs_f64());
+        println!(
+            "{name}: no difference ({:.1} s)",
+            begin.elapsed().as_secs_f64()
+        );
     }
     ExitCode::SUCCESS
 }

@@ -46,13 +46,7 @@ mod c {
 pub fn box_header(buf: &[u8], start: usize, out: &mut [u8]) -> u64 {
     // SAFETY: pointers and lengths are those of live slices, and the function asks nothing else.
     unsafe {
-        c::bustardcase_box_header(
-            buf.as_ptr(),
-            buf.len(),
-            start,
-            out.as_mut_ptr(),
-            out.len(),
-        )
+        c::bustardcase_box_header(buf.as_ptr(), buf.len(), start, out.as_mut_ptr(), out.len())
     }
 }
 

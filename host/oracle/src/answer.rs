@@ -15,7 +15,9 @@ impl Answer {
     pub fn word(&self, out_len: usize) -> u64 {
         match self {
             Answer::Refused(number) => number << 32,
-            Answer::Done(bytes) if out_len < bytes.len() => (SHORT_OUTPUT << 32) + bytes.len() as u64,
+            Answer::Done(bytes) if out_len < bytes.len() => {
+                (SHORT_OUTPUT << 32) + bytes.len() as u64
+            }
             Answer::Done(bytes) => bytes.len() as u64,
         }
     }

@@ -92,7 +92,12 @@ pub fn near_types(visit: &mut Visit) -> Result<(), String> {
 
 /// Starts near the largest usize and near other powers of two.
 pub fn far_starts(visit: &mut Visit) -> Result<(), String> {
-    let edges = [usize::MAX - 60, (1 << 63) - 30, (1 << 32) - 30, (1 << 31) - 30];
+    let edges = [
+        usize::MAX - 60,
+        (1 << 63) - 30,
+        (1 << 32) - 30,
+        (1 << 31) - 30,
+    ];
     for len in 0..=LONGEST {
         let mut buf = filler(len);
         for size in [0, 1, 8, 24] {
@@ -191,12 +196,12 @@ fn random_start(r: &mut Random, len: usize) -> usize {
         12 => len.saturating_sub(r.below(40) as usize),
         13 => len + r.below(20) as usize,
         14 => usize::MAX - r.below(40) as usize,
-        _ => r.next() as usize,
+        _ => r.word() as usize,
     }
 }
 
 fn random_fields(r: &mut Random, left: u64) -> Fields {
-    let other = (r.next() as u32).to_be_bytes();
+    let other = (r.word() as u32).to_be_bytes();
     Fields {
         size: match r.below(8) {
             0 => 0,
@@ -214,8 +219,8 @@ fn random_size(r: &mut Random, left: u64) -> u64 {
         4 => r.pick(&[7, 8, 9, 15, 16, 17, 23, 24, 25, 31, 32, 33]),
         5..=6 => r.below(left + 1),
         7 => r.below(41),
-        8 => left + (r.next() << 32 >> r.below(32)),
-        _ => r.next(),
+        8 => left + (r.word() << 32 >> r.below(32)),
+        _ => r.word(),
     }
 }
 
@@ -309,7 +314,13 @@ fn sample_starts(visit: &mut Visit) -> Result<(), String> {
     put(&mut buf, 0, outer);
     put(&mut buf, 12, inner);
     let near = [0, 1, 4, 11, 12, 13, 35, 36, 37, 43, 44, 45];
-    let far = [(1 << 32) + 12, 1 << 63, usize::MAX - 8, usize::MAX - 7, usize::MAX];
+    let far = [
+        (1 << 32) + 12,
+        1 << 63,
+        usize::MAX - 8,
+        usize::MAX - 7,
+        usize::MAX,
+    ];
     for start in near.into_iter().chain(far) {
         visit(&buf, start)?;
     }

@@ -7,7 +7,7 @@ impl Random {
         Random(seed)
     }
 
-    pub fn next(&mut self) -> u64 {
+    pub fn word(&mut self) -> u64 {
         self.0 = self.0.wrapping_add(0x9e37_79b9_7f4a_7c15);
         let mut z = self.0;
         z = (z ^ (z >> 30)).wrapping_mul(0xbf58_476d_1ce4_e5b9);
@@ -17,7 +17,7 @@ impl Random {
 
     /// A number below `n`.
     pub fn below(&mut self, n: u64) -> u64 {
-        self.next() % n
+        self.word() % n
     }
 
     /// A number from `low` to `high`, both included.
@@ -31,7 +31,7 @@ impl Random {
     }
 
     pub fn flag(&mut self) -> bool {
-        self.next() >> 63 == 1
+        self.word() >> 63 == 1
     }
 
     pub fn pick<T: Copy>(&mut self, of: &[T]) -> T {
@@ -40,7 +40,7 @@ impl Random {
 
     pub fn fill(&mut self, bytes: &mut [u8]) {
         for part in bytes.chunks_mut(8) {
-            let word = self.next().to_le_bytes();
+            let word = self.word().to_le_bytes();
             part.copy_from_slice(&word[..part.len()]);
         }
     }

@@ -35,9 +35,13 @@ const fn at(number: u64, name: &'static str) -> Place {
     Place { number, name }
 }
 
-/// Every place. A payload ends at a whole byte, so a field that ends in the same byte as the one
-/// before it is never the first that is missing: such fields stand in `NEVER_FIRST`.
-pub const PLACES: [Place; 66] = [
+/// Every place. A payload ends at a whole byte, so a field that never begins a byte and never reaches
+/// into the next is never the first that is missing: the padding and these are not listed.
+///
+/// - explicit_codec_types_flag to hdr_flag, exif_flag to orientation_minus1: they lie within a byte;
+/// - gainmap_dimension_same_as_main_item_flag: before it lie 8 n + 7 bits, then 0 to 2 for chroma,
+///   1, 2 or 4 for the depth, 0 or 1 for alpha, whole bytes, and gainmap_flag.
+pub const PLACES: &[Place] = &[
     at(5, "version"),
     at(5, "icc_flag"),
     at(5, "large_dimensions_flag"),
@@ -53,7 +57,6 @@ pub const PLACES: [Place; 66] = [
     at(5, "infe_type"),
     at(5, "codec_config_type"),
     at(5, "gainmap_flag"),
-    at(5, "gainmap_dimension_same_as_main_item_flag"),
     at(5, "gainmap_width_minus1"),
     at(5, "gainmap_height_minus1"),
     at(5, "gainmap_matrix_coefficients"),
@@ -104,6 +107,8 @@ pub const PLACES: [Place; 66] = [
     at(9, "alpha_item_data"),
     at(9, "gainmap_item_data"),
     at(9, "main_item_data"),
+    at(9, "exif_data"),
+    at(9, "xmp_data"),
 ];
 
 /// The place of an error of `MinimizedImage::parse`, as an index into `PLACES`.

@@ -1,5 +1,5 @@
 use native.Mathlib.Omega.{arith}
-use Rattle.exports.specs.HeaderBytes.{length-headerBytes}
+use Rattle.layout.specs.HeaderBytes.{length-headerBytes}
 use Rattle.exports.specs.AnswerLaws.{refuses, lacks-room, hands-out}
 use borrow.Author.Needs.{needs}
 use Rattle.exports.proofs.bustardcase_box_header.Statement.{statement}

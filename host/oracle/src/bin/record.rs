@@ -1,16 +1,17 @@
-//! Writes a fixed list of inputs with the supplied Rust's answers: `record boxes`. A program of the
-//! repository replays the list, so that it needs no Rust.
+//! Writes a fixed list of inputs with the supplied Rust's answers: `record boxes`, `record read`. A
+//! program of the repository replays the list, so that it needs no Rust.
 
 use oracle::answer::Answer;
 use oracle::hex::hex;
-use oracle::{box_cases, boxes};
+use oracle::{box_cases, boxes, reading, samples};
 use std::process::ExitCode;
 
 fn main() -> ExitCode {
     let names: Vec<String> = std::env::args().skip(1).collect();
     let text = match names.iter().map(String::as_str).collect::<Vec<_>>()[..] {
         ["boxes"] => record_boxes(),
-        _ => Err("usage: record boxes".to_string()),
+        ["read"] => record_read(),
+        _ => Err("usage: record boxes | record read".to_string()),
     };
     match text {
         Ok(text) => {
@@ -32,6 +33,16 @@ fn record_boxes() -> Result<String, String> {
         text += &format!("{} {start} {}\n", hex(buf), said(&answer));
         Ok(())
     })?;
+    Ok(text)
+}
+
+fn record_read() -> Result<String, String> {
+    let mut text = heading("read", "MinimizedImage::parse");
+    text += "# payload refusal record\n";
+    for payload in samples::payloads() {
+        let answer = reading::read(&payload)?.answer(&payload)?;
+        text += &format!("{} {}\n", hex(&payload), said(&answer));
+    }
     Ok(text)
 }
 

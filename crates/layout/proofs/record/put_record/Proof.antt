@@ -1,0 +1,22 @@
+use Rattle.octets.specs.OverwriteLaws.{then}
+use Rattle.layout.specs.RecordBytes.{recordBytes}
+use borrow.Author.Needs.{needs}
+use Rattle.layout.proofs.record.put_record.Statement.{statement}
+use Rattle.layout.proofs.record.put_record.Tie as tie
+
+returns : tie.Need-returns
+unfolding recordBytes
+returns c = then (then (then (then (then (c .before .before .before .before .before .before .before .before .before .before .before .before .before .before .before .before .before .before .before .before .before .before .put-picture .ensures) (c .before .before .before .before .before .before .before .before .before .before .before .before .before .before .before .before .before .before .put-colour .ensures)) (c .before .before .before .before .before .before .before .before .before .before .before .before .before .before .put-hdr-boxes .ensures)) (c .before .before .before .before .before .before .before .before .before .before .put-flag .ensures)) (c .before .before .before .before .before .before .put-gain-map .ensures)) (c .before .before .put-items .ensures)
+
+pub put-record-spec : {M : Type 1} → statement M
+put-record-spec =
+    tie.close
+    (tie.spec
+    (λ c κs. search needs)
+    (λ c κs. search needs)
+    (λ c κs. search needs)
+    (λ c κs. search needs)
+    (λ c κs. search needs)
+    (λ c κs. search needs)
+    (λ c. search needs)
+    returns)

@@ -1,0 +1,3 @@
+pub mod HeaderBytes
+pub mod RecordBytes
+pub mod RecordLength

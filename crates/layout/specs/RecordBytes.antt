@@ -1,0 +1,113 @@
+-- A record as 441 bytes (docs/ABI.md), field by field in the order of the record; numbers big-endian. What may be absent has a
+-- byte before it, 1 if it is present, else 0, and zeros in its place.
+use mathlib.Core.Bool.{Bool, true, false}
+use mathlib.Core.List.{List, [], _∷_, _++_}
+use Prim.Native.Nat.{ℕ}
+use Rattle.octets.specs.BigEndian.{be}
+use Rattle.mini.specs.declared.Chunk.{Chunk}
+use Rattle.mini.specs.declared.Chunk.the-variants as chunk-is
+use Rattle.mini.specs.declared.ExplicitCicp.{ExplicitCicp}
+use Rattle.mini.specs.declared.ExplicitCicp.the-variants as cicp-is
+use Rattle.mini.specs.declared.ExplicitCodecTypes.{ExplicitCodecTypes}
+use Rattle.mini.specs.declared.ExplicitCodecTypes.the-variants as types-are
+use Rattle.mini.specs.declared.MiniChroma.{MiniChroma}
+use Rattle.mini.specs.declared.MiniGainMap.{MiniGainMap}
+use Rattle.mini.specs.declared.MiniHdrBoxes.{MiniHdrBoxes}
+use Rattle.mini.specs.declared.MinimizedImage.{MinimizedImage}
+use Rattle.mini.specs.declared.SampleFormat.{SampleFormat}
+use Rattle.mini.specs.declared.SampleFormat.the-variants.{Integer, Float}
+use Rattle.mini.specs.declared.Span.{Span}
+use Rattle.mini.specs.declared.TmapCicp.{TmapCicp}
+use Rattle.mini.specs.declared.TmapCicp.the-variants as tmap-is
+
+abbrev pub flagBytes : Bool → List ℕ
+flagBytes true = 1 ∷ []
+flagBytes false = 0 ∷ []
+
+-- item type and configuration type
+unfoldable pub typesParts : ℕ → ℕ → ℕ → List ℕ
+typesParts present infe config = (present ∷ []) ++ be 4 infe ++ be 4 config
+
+abbrev pub codecTypesBytes : ExplicitCodecTypes → List ℕ
+codecTypesBytes types-are.Absent = typesParts 0 0 0
+codecTypesBytes (types-are.Present infe config) = typesParts 1 infe config
+
+-- 0 integer, 1 float; bits
+abbrev pub formatBytes : SampleFormat → List ℕ
+formatBytes (Integer bits) = (0 ∷ []) ++ (bits ∷ [])
+formatBytes (Float bits) = (1 ∷ []) ++ (bits ∷ [])
+
+unfoldable pub chromaBytes : MiniChroma → List ℕ
+chromaBytes c = (c .subsampling ∷ []) ++ flagBytes (c .«horizontally_centered») ++ flagBytes (c .«vertically_centered»)
+
+-- primaries, transfer, matrix
+unfoldable pub colourParts : ℕ → ℕ → ℕ → ℕ → List ℕ
+colourParts present primaries transfer matrix = (present ∷ []) ++ (primaries ∷ []) ++ (transfer ∷ []) ++ (matrix ∷ [])
+
+abbrev pub cicpBytes : ExplicitCicp → List ℕ
+cicpBytes cicp-is.Absent = colourParts 0 0 0 0
+cicpBytes (cicp-is.Present primaries transfer matrix) = colourParts 1 primaries transfer matrix
+
+unfoldable pub tmapParts : ℕ → ℕ → ℕ → ℕ → Bool → List ℕ
+tmapParts present primaries transfer matrix full = colourParts present primaries transfer matrix ++ flagBytes full
+
+abbrev pub tmapCicpBytes : TmapCicp → List ℕ
+tmapCicpBytes tmap-is.Absent = tmapParts 0 0 0 0 false
+tmapCicpBytes (tmap-is.Present primaries transfer matrix full) = tmapParts 1 primaries transfer matrix full
+
+-- position and length in the payload
+unfoldable pub chunkParts : ℕ → ℕ → ℕ → List ℕ
+chunkParts present at len = (present ∷ []) ++ be 8 at ++ be 8 len
+
+abbrev pub chunkBytes : Chunk → List ℕ
+chunkBytes chunk-is.Absent = chunkParts 0 0 0
+chunkBytes (chunk-is.Present at len) = chunkParts 1 at len
+
+unfoldable pub spanBytes : Span → List ℕ
+spanBytes s = be 8 (s .at) ++ be 8 (s .len)
+
+unfoldable pub hdrFlagBytes : MiniHdrBoxes → List ℕ
+hdrFlagBytes h =
+    flagBytes (h .«has_clli») ++ flagBytes (h .«has_mdcv») ++ flagBytes (h .«has_cclv») ++ flagBytes (h .«has_amve») ++ flagBytes (h .«has_reve»)
+    ++ flagBytes (h .«has_ndwt»)
+
+-- 4, 24, 37, 8, 20 and 4 bytes
+unfoldable pub hdrBodyBytes : MiniHdrBoxes → List ℕ
+hdrBodyBytes h = h .clli ++ h .mdcv ++ h .cclv ++ h .amve ++ h .reve ++ h .ndwt
+
+unfoldable pub hdrBoxesBytes : MiniHdrBoxes → List ℕ
+hdrBoxesBytes h = hdrFlagBytes h ++ hdrBodyBytes h
+
+unfoldable pub gainMapPictureBytes : MiniGainMap → List ℕ
+gainMapPictureBytes g =
+    be 4 (g .width) ++ be 4 (g .height) ++ (g .«matrix_coefficients» ∷ []) ++ flagBytes (g .«full_range») ++ chromaBytes (g .chroma)
+    ++ formatBytes (g .format)
+    ++ tmapCicpBytes (g .«tmap_cicp»)
+
+unfoldable pub gainMapBytes : MiniGainMap → List ℕ
+gainMapBytes g =
+    gainMapPictureBytes g ++ chunkBytes (g .«tmap_icc») ++ hdrBoxesBytes (g .«tmap_hdr») ++ spanBytes (g .metadata)
+    ++ chunkBytes (g .«codec_config»)
+    ++ spanBytes (g .«data»)
+
+unfoldable pub pictureBytes : MinimizedImage → List ℕ
+pictureBytes i =
+    codecTypesBytes (i .«explicit_codec_types») ++ formatBytes (i .format) ++ flagBytes (i .«full_range») ++ chromaBytes (i .chroma)
+    ++ (i .orientation ∷ [])
+    ++ be 4 (i .width)
+    ++ be 4 (i .height)
+
+unfoldable pub colourBytes : MinimizedImage → List ℕ
+colourBytes i =
+    cicpBytes (i .«explicit_cicp») ++ chunkBytes (i .icc) ++ flagBytes (i .alpha) ++ flagBytes (i .«alpha_premultiplied») ++ flagBytes (i .hdr)
+
+unfoldable pub itemBytes : MinimizedImage → List ℕ
+itemBytes i =
+    spanBytes (i .«main_codec_config») ++ spanBytes (i .«main_data») ++ chunkBytes (i .«alpha_codec_config») ++ spanBytes (i .«alpha_data»)
+    ++ flagBytes (i .«exif_xmp_compressed»)
+    ++ chunkBytes (i .exif)
+    ++ chunkBytes (i .xmp)
+
+unfoldable pub recordBytes : MinimizedImage → List ℕ
+recordBytes i =
+    pictureBytes i ++ colourBytes i ++ hdrBoxesBytes (i .«hdr_boxes») ++ flagBytes (i .«has_gain_map») ++ gainMapBytes (i .«gain_map») ++ itemBytes i

@@ -1,0 +1,73 @@
+-- The layout of a record is as long as docs/ABI.md says.
+use mathlib.Core.Path.{_≡_, refl}
+use mathlib.Core.Bool.{Bool, true, false}
+use mathlib.Core.List.{List}
+use Prim.Native.Nat.{ℕ, _+_}
+use native.Mathlib.Omega.{arith}
+use lib.ListN.{length, length-append}
+use Rattle.octets.specs.BigEndianLaws.{length-be}
+use Rattle.mini.specs.declared.Chunk.{Chunk}
+use Rattle.mini.specs.declared.Chunk.the-variants as chunk-is
+use Rattle.mini.specs.declared.ExplicitCicp.{ExplicitCicp}
+use Rattle.mini.specs.declared.ExplicitCicp.the-variants as cicp-is
+use Rattle.mini.specs.declared.ExplicitCodecTypes.{ExplicitCodecTypes}
+use Rattle.mini.specs.declared.ExplicitCodecTypes.the-variants as types-are
+use Rattle.mini.specs.declared.MiniChroma.{MiniChroma}
+use Rattle.mini.specs.declared.MiniHdrBoxes.{MiniHdrBoxes}
+use Rattle.mini.specs.declared.MinimizedImage.{MinimizedImage}
+use Rattle.mini.specs.declared.SampleFormat.{SampleFormat}
+use Rattle.mini.specs.declared.SampleFormat.the-variants.{Integer, Float}
+use Rattle.mini.specs.declared.Span.{Span}
+use Rattle.mini.specs.declared.TmapCicp.{TmapCicp}
+use Rattle.mini.specs.declared.TmapCicp.the-variants as tmap-is
+use Rattle.layout.specs.RecordBytes.{flagBytes, typesParts, codecTypesBytes, formatBytes, chromaBytes, colourParts, cicpBytes, tmapParts, tmapCicpBytes, chunkParts, chunkBytes, spanBytes, hdrFlagBytes, hdrBodyBytes, hdrBoxesBytes, gainMapPictureBytes, gainMapBytes, pictureBytes, colourBytes, itemBytes, recordBytes}
+
+length-flag : (on : Bool) → length (flagBytes on) ≡ 1
+length-flag true = refl
+length-flag false = refl
+
+length-types : (t : ExplicitCodecTypes) → length (codecTypesBytes t) ≡ 9
+unfolding typesParts
+length-types types-are.Absent = simp (length-append, length-be)
+length-types (types-are.Present infe config) = simp (length-append, length-be)
+
+length-format : (f : SampleFormat) → length (formatBytes f) ≡ 2
+length-format (Integer bits) = refl
+length-format (Float bits) = refl
+
+length-chroma : (c : MiniChroma) → length (chromaBytes c) ≡ 3
+unfolding chromaBytes
+length-chroma c = simp (length-append, length-flag)
+
+length-cicp : (t : ExplicitCicp) → length (cicpBytes t) ≡ 4
+unfolding colourParts
+length-cicp cicp-is.Absent = refl
+length-cicp (cicp-is.Present primaries transfer matrix) = refl
+
+length-tmap : (t : TmapCicp) → length (tmapCicpBytes t) ≡ 5
+unfolding tmapParts colourParts
+length-tmap tmap-is.Absent = refl
+length-tmap (tmap-is.Present primaries transfer matrix full) = simp (length-append, length-flag)
+
+length-chunk : (c : Chunk) → length (chunkBytes c) ≡ 17
+unfolding chunkParts
+length-chunk chunk-is.Absent = simp (length-append, length-be)
+length-chunk (chunk-is.Present at len) = simp (length-append, length-be)
+
+length-span : (s : Span) → length (spanBytes s) ≡ 16
+unfolding spanBytes
+length-span s = simp (length-append, length-be)
+
+-- the bodies have the lengths that their type gives them
+pub length-hdr : (h : MiniHdrBoxes) → length (h .clli) ≡ 4 → length (h .mdcv) ≡ 24 → length (h .cclv) ≡ 37 → length (h .amve) ≡ 8
+    → length (h .reve) ≡ 20
+    → length (h .ndwt) ≡ 4
+    → length (hdrBoxesBytes h) ≡ 103
+unfolding hdrBoxesBytes hdrFlagBytes hdrBodyBytes
+length-hdr h a b c d e f = simp (length-append, length-flag, a, b, c, d, e, f)
+
+pub length-record : (i : MinimizedImage) → length (hdrBoxesBytes (i .«hdr_boxes»)) ≡ 103 → length (hdrBoxesBytes (i .«gain_map» .«tmap_hdr»)) ≡ 103
+    → length (recordBytes i) ≡ 441
+unfolding recordBytes pictureBytes colourBytes gainMapBytes gainMapPictureBytes itemBytes
+length-record i a b =
+    simp (length-append, length-be, length-flag, length-types, length-format, length-chroma, length-cicp, length-tmap, length-chunk, length-span, a, b)

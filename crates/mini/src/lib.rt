@@ -1,0 +1,298 @@
+// The record of a MinimizedImageBox, the parts of its header, and what a reading gives (ISO/IEC 23008-12 Amd 2, Annex O).
+ghost use mathlib.Core.Path.{_≡_};
+ghost use Rattle.mini.specs.Chunks.{isPresent};
+ghost use Rattle.mini.specs.Cicp.{tableCicp, cicpOf};
+ghost use Rattle.mini.specs.DisplayProfile.{meetsDisplayProfile};
+ghost use Rattle.mini.specs.Views.{isFloat};
+
+pub enum SampleFormat {
+    Integer { bits: u8 },
+    Float { bits: u8 },
+}
+
+// Absent: inferred from the brand in the file type's minor version.
+pub enum ExplicitCodecTypes {
+    Absent,
+    Present {
+        infe_type: u32,
+        codec_config_type: u32,
+    },
+}
+
+// Absent: Table O.3.
+pub enum ExplicitCicp {
+    Absent,
+    Present {
+        primaries: u8,
+        transfer: u8,
+        matrix: u8,
+    },
+}
+
+// Absent: sRGB, Table O.5.
+pub enum TmapCicp {
+    Absent,
+    Present {
+        primaries: u8,
+        transfer: u8,
+        matrix: u8,
+        full_range: bool,
+    },
+}
+
+pub struct MiniChroma {
+    pub subsampling: u8,
+    pub horizontally_centered: bool,
+    pub vertically_centered: bool,
+}
+
+// The bodies, each with zeros where it is absent, and after a cclv's length.
+pub struct MiniHdrBoxes {
+    pub has_clli: bool,
+    pub has_mdcv: bool,
+    pub has_cclv: bool,
+    pub has_amve: bool,
+    pub has_reve: bool,
+    pub has_ndwt: bool,
+    pub clli: [u8; 4],
+    pub mdcv: [u8; 24],
+    pub cclv: [u8; 37],
+    pub amve: [u8; 8],
+    pub reve: [u8; 20],
+    pub ndwt: [u8; 4],
+}
+
+// A part of the payload that may be absent.
+pub enum Chunk {
+    Absent,
+    Present { at: usize, len: usize },
+}
+
+// A part of the payload that is always there, perhaps empty.
+pub struct Span {
+    pub at: usize,
+    pub len: usize,
+}
+
+pub struct MiniGainMap {
+    pub width: u32,
+    pub height: u32,
+    pub matrix_coefficients: u8,
+    pub full_range: bool,
+    pub chroma: MiniChroma,
+    pub format: SampleFormat,
+    pub tmap_cicp: TmapCicp,
+    pub tmap_icc: Chunk,
+    pub tmap_hdr: MiniHdrBoxes,
+    pub metadata: Span,
+    pub codec_config: Chunk,
+    pub data: Span,
+}
+
+// The gain map is blank where has_gain_map is false.
+pub struct MinimizedImage {
+    pub explicit_codec_types: ExplicitCodecTypes,
+    pub format: SampleFormat,
+    pub full_range: bool,
+    pub chroma: MiniChroma,
+    pub orientation: u8,
+    pub width: u32,
+    pub height: u32,
+    pub explicit_cicp: ExplicitCicp,
+    pub icc: Chunk,
+    pub alpha: bool,
+    pub alpha_premultiplied: bool,
+    pub hdr: bool,
+    pub hdr_boxes: MiniHdrBoxes,
+    pub has_gain_map: bool,
+    pub gain_map: MiniGainMap,
+    pub main_codec_config: Span,
+    pub main_data: Span,
+    pub alpha_codec_config: Chunk,
+    pub alpha_data: Span,
+    pub exif_xmp_compressed: bool,
+    pub exif: Chunk,
+    pub xmp: Chunk,
+}
+
+// A refusal's number, 0 where there is none, and the record, blank where there is one.
+pub struct Reading {
+    pub refusal: u8,
+    pub image: MinimizedImage,
+}
+
+// The header's first sixteen bits.
+pub struct Flags {
+    pub explicit_codec_types: bool,
+    pub float: bool,
+    pub full_range: bool,
+    pub alpha: bool,
+    pub explicit_cicp: bool,
+    pub hdr: bool,
+    pub icc: bool,
+    pub exif: bool,
+    pub xmp: bool,
+    pub subsampling: u8,
+    pub orientation: u8,
+}
+
+pub struct Dimensions {
+    pub large: bool,
+    pub width: u32,
+    pub height: u32,
+}
+
+// What the header says of the main picture's samples and coding.
+pub struct MainFormat {
+    pub chroma: MiniChroma,
+    pub format: SampleFormat,
+    pub alpha_premultiplied: bool,
+    pub explicit_cicp: ExplicitCicp,
+    pub explicit_codec_types: ExplicitCodecTypes,
+}
+
+// The gain map's part of the header, before the HDR boxes.
+pub struct GainMapHeader {
+    pub present: bool,
+    pub same_dimensions: bool,
+    pub width: u32,
+    pub height: u32,
+    pub matrix_coefficients: u8,
+    pub full_range: bool,
+    pub subsampling: u8,
+    pub chroma: MiniChroma,
+    pub float: bool,
+    pub format: SampleFormat,
+    pub tmap_icc: bool,
+    pub tmap_explicit_cicp: bool,
+    pub tmap_cicp: TmapCicp,
+}
+
+// The sizes of the chunks in bytes, 0 for what is absent, with the flags for the long forms.
+pub struct ChunkSizes {
+    pub large_metadata: bool,
+    pub large_codec_config: bool,
+    pub large_item_data: bool,
+    pub icc: usize,
+    pub tmap_icc: usize,
+    pub gain_map_metadata: usize,
+    pub gain_map_data: usize,
+    pub gain_map_codec_config: usize,
+    pub main_codec_config: usize,
+    pub main_data: usize,
+    pub alpha_data: usize,
+    pub alpha_codec_config: usize,
+    pub exif_xmp_compressed: bool,
+    pub exif: usize,
+    pub xmp: usize,
+}
+
+// Where each chunk lies, or would lie.
+pub struct ChunkPlaces {
+    pub main_codec_config: usize,
+    pub alpha_codec_config: usize,
+    pub gain_map_codec_config: usize,
+    pub icc: usize,
+    pub tmap_icc: usize,
+    pub gain_map_metadata: usize,
+    pub alpha_data: usize,
+    pub gain_map_data: usize,
+    pub main_data: usize,
+    pub exif: usize,
+    pub xmp: usize,
+}
+
+// All that stands before the chunks.
+pub struct Header {
+    pub flags: Flags,
+    pub dimensions: Dimensions,
+    pub main: MainFormat,
+    pub gain_map: GainMapHeader,
+    pub hdr_boxes: MiniHdrBoxes,
+    pub tmap_hdr: MiniHdrBoxes,
+    pub sizes: ChunkSizes,
+}
+
+// Colour primaries, transfer characteristics and matrix coefficients.
+pub struct Cicp {
+    pub primaries: u8,
+    pub transfer: u8,
+    pub matrix: u8,
+}
+
+const MAX_DISPLAY_WIDTH: u32 = 1920;
+
+const MAX_DISPLAY_HEIGHT: u32 = 1080;
+
+impl Chunk {
+    pub fn is_present(self) -> bool
+        ensures { λ r. ⌜ r ≡ isPresent self ⌝ }
+    {
+        match self {
+            Chunk::Absent => false,
+            Chunk::Present { at: _, len: _ } => true,
+        }
+    }
+}
+
+impl SampleFormat {
+    pub fn is_float(self) -> bool
+        ensures { λ r. ⌜ r ≡ isFloat self ⌝ }
+    {
+        match self {
+            SampleFormat::Integer { bits: _ } => false,
+            SampleFormat::Float { bits: _ } => true,
+        }
+    }
+}
+
+// The values of Table O.3, with or without an ICC profile.
+fn table_cicp(icc: bool, subsampling: u8) -> Cicp
+    ensures { λ r. ⌜ r ≡ tableCicp icc subsampling ⌝ }
+{
+    let primaries = bits::pick(icc, 2, 1);
+    let transfer = bits::pick(icc, 2, 13);
+    let matrix = bits::pick(subsampling == 0, 2, 6);
+    Cicp {
+        primaries,
+        transfer,
+        matrix,
+    }
+}
+
+impl MinimizedImage {
+    // The main picture's colour: explicit, else that of Table O.3.
+    pub fn cicp(self) -> Cicp
+        ensures { λ r. ⌜ r ≡ cicpOf self ⌝ }
+    {
+        let explicit_cicp = self.explicit_cicp;
+        let ExplicitCicp::Present {
+            primaries,
+            transfer,
+            matrix,
+        } = explicit_cicp
+        else {
+            let icc = self.icc;
+            return table_cicp(icc.is_present(), self.chroma.subsampling);
+        };
+        Cicp {
+            primaries,
+            transfer,
+            matrix,
+        }
+    }
+
+    // Whether a display takes the picture as it is (document 01's desk check).
+    pub fn meets_display_profile(self) -> bool
+        ensures { λ r. ⌜ r ≡ meetsDisplayProfile self ⌝ }
+    {
+        let format = self.format;
+        let exif = self.exif;
+        let size = bits::both(
+            self.width <= MAX_DISPLAY_WIDTH,
+            self.height <= MAX_DISPLAY_HEIGHT,
+        );
+        let plain = bits::both(!self.has_gain_map, bits::both(exif.is_present(), size));
+        bits::both(!format.is_float(), plain)
+    }
+}

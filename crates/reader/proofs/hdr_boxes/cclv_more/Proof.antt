@@ -1,0 +1,23 @@
+-- `reader::hdr_boxes::cclv_more` meets its contract. Assumes nothing.
+use native.Mathlib.Omega.{arith}
+use Rattle.mini.specs.Cclv.{cclvMore}
+use borrow.Author.Needs.{needs}
+use Rattle.reader.proofs.hdr_boxes.cclv_more.Statement.{statement}
+use Rattle.reader.proofs.hdr_boxes.cclv_more.Tie as tie
+
+returns : tie.Need-returns
+unfolding cclvMore
+returns c = (search needs, omega arith)
+
+pub cclv-more-spec : {M : Type 1} → statement M
+cclv-more-spec =
+    tie.close
+    (tie.spec
+    (λ c. search needs)
+    (λ c. search needs)
+    (λ c. search needs)
+    (λ c. search needs)
+    (λ c. search needs)
+    (λ c. search needs)
+    (λ c. search needs)
+    returns)
