@@ -258,7 +258,7 @@ const a is d =
       told = λ s b h. h;
     }
 
--- ---- a test on the value just read: refusal r where it fails. The number of a refusal is not 0.
+-- ---- a test on the value just read: refusal r, one of reading's, where it fails
 passed : (r : ℕ) → T (isReadingRefusal r) → (b : State) (c t : Bool) → eqb (b .refusal) 0 ≡ c → refuseIf c t b r .refusal ≡ 0
     → (b .refusal ≡ 0) × T t × (refuseIf c t b r ≡ b)
 passed r h b true true e z = (z, tt, refl)

@@ -4,3 +4,5 @@ pub mod Near
 pub mod Run
 pub mod State
 pub mod Window
+pub mod Writer
+pub mod WriterLaws

@@ -86,6 +86,17 @@ part-lt s p j =
     let x = take j (drop p (bitsOf s)) in
     lt-of-lt-of-le (val-lt x) (pow-mono (simp length-take (omega arith)))
 
+-- one bit, out of the byte that it lies in
+pub bit-part : (d : List ℕ) (i a p : ℕ) → a < 8 → i * 8 + a ≡ p → p + 1 ≤ 8 * length d → getD d i 0 / 2 ^ (7 - a) % 2 ≡ part d p 1
+bit-part d i a p h e g =
+    let at : (p + 0) / 8 ≡ i = omega arith in
+    let off : (p + 0) % 8 ≡ a = omega arith in
+    sym
+    (part-more d p 0 (omega arith)
+    ∙ ap (λ (k : ℕ). k * 2 + getD d ((p + 0) / 8) 0 / 2 ^ (7 - (p + 0) % 8) % 2) (part-none d p)
+    ∙ ap₂ (λ (x y : ℕ). 0 + getD d x 0 / 2 ^ (7 - y) % 2) at off
+    ∙ zero-add _)
+
 -- ---- as code reads them: bit p, 0 or 1; past the end, 0
 unfoldable pub bitAt : List ℕ → ℕ → ℕ
 bitAt d p = getD d (p / 8) 0 / 2 ^ (7 - p % 8) % 2

@@ -4,12 +4,14 @@ ghost use mathlib.Core.Path.{_≡_};
 ghost use mathlib.Core.List.{_∷_, _++_};
 ghost use Prim.Native.Nat.{_+_, _-_, _*_, _^_, _≤_, _<_};
 ghost use mathlib.Core.Bool.{true, _&&_, _||_};
-ghost use lib.Dec.{leb};
+ghost use lib.Dec.{eqb, leb};
 ghost use lib.ListN.{getD, length, replicate};
 ghost use Rattle.bits.specs.State.{clean, ahead, part, bytesAt, bytesIf, readBytes, test};
 ghost use Rattle.bits.specs.Format.{field, flag, fieldIf, flagIf, minus1If, sized, bytesFor, padded37};
 ghost use Rattle.bits.specs.Run.{state, Run};
 ghost use Rattle.bits.specs.Window.{windowAt};
+
+pub mod writer;
 
 // Both, either and one of two, as calls: `&&`, `||` and `if` in an argument would be branches.
 pub fn both(a: bool, b: bool) -> bool
@@ -33,7 +35,8 @@ pub fn pick(first: bool, a: u8, b: u8) -> u8
 // A place counted in bits: the whole bytes passed, and the bits of the next one. So every place within a slice is a BitPos.
 pub struct BitPos(pub usize, pub usize);
 
-// A reader's state: the bit that comes next, and the refusal met so far (0: none).
+// A reader's state: the bit that comes next, and the refusal met so far (0: none). It has no padding, whose copying would cost
+// more than the reading.
 pub struct Bits {
     pub at: BitPos,
     pub refusal: usize,
@@ -143,6 +146,16 @@ fn field(data: &[u8], byte: usize, bit: usize, n: u32) -> u32
     let high = w >> (40 - a - n);
     let size: u64 = 1 << n;
     (high % size) as u32
+}
+
+// Whether the bit at a place is 1.
+fn bit_at(data: &[u8], byte: usize, bit: usize) -> bool
+    requires { ⌜ byte * 8 + bit + 1 ≤ 8 * length (now «data») ⌝ }
+    ensures { λ r. ⌜ r ≡ eqb (part (now («data» .entry)) (byte * 8 + bit) 1) 1 ⌝ }
+{
+    let i = byte + bit / 8;
+    let high = wide(data[i]) >> (7 - bit % 8);
+    high % 2 == 1
 }
 
 fn octet(data: &[u8], byte: usize, bit: usize) -> u8
@@ -315,11 +328,17 @@ impl Bits {
     pub fn flag(self, data: &[u8]) -> FlagRead
         ensures { λ r. ⌜ Run flag (now («data» .entry)) (state self) (r .value) (state (r .next)) ⌝ }
     {
-        let f = self.read(data, 1);
-        let next = f.next;
-        FlagRead {
-            value: f.value == 1,
-            next,
+        let a = self.ahead(data, 1);
+        let next = a.next;
+        if a.value {
+            let byte = self.at.0;
+            let bit = self.at.1;
+            FlagRead {
+                value: bit_at(data, byte, bit),
+                next,
+            }
+        } else {
+            FlagRead { value: false, next }
         }
     }
 

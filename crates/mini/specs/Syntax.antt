@@ -5,7 +5,7 @@
 --   exactly n v r   n bits that must write v, else refusal r                    ensure p f r   p, whose value must pass f, else refusal r
 --   flagIf c, fieldIf c n, minus1If c n, bytesFor c n   stand only where c holds; else no bits: false, 0 or zeros
 --   sized t long short   long where t holds, else short                         choose t p q   p where t holds, else q
--- (`tt` shows that a refusal's number is not 0.) A value is bound to the field's name; the last field of a group has its name behind it.
+-- (`tt` shows that the number is one of reading's refusals, 5 to 9.) A value is bound to the field's name; the last field of a group has its name behind it.
 -- The words that begin with `as` only put a group's values into a record (Views).
 use mathlib.Core.Bool.{Bool, _&&_, _||_}
 use mathlib.Core.List.{List}

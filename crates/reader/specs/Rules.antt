@@ -1,6 +1,6 @@
 -- Rules for the parts of the reader that are no plain sequence: a cclv, the trailing bits, the chunks. Assumes nothing.
 use mathlib.Core.Path.{_≡_, refl, sym, ap, ap₂, _∙_}
-use mathlib.Core.Bool.{Bool, true, false, true≢false}
+use mathlib.Core.Bool.{Bool, true, false}
 use mathlib.Core.List.{List}
 use Prim.Native.Nat.{ℕ, _+_, _/_}
 use lib.Dec.{eqb, leb}
@@ -14,8 +14,13 @@ use Rattle.mini.specs.Chunks.{storedSizes, endWithin}
 use Rattle.mini.specs.Cut.{sum, end-within-sum}
 use Rattle.mini.specs.Image.{imageOf}
 use Rattle.mini.specs.Read.{bitsToBoundary, pastTrailingBits, testChunks, readingIf, readChunks}
-use Rattle.mini.specs.Syntax.{cclv, cclvFor, hdrBoxes, trailingBits}
+use Rattle.mini.specs.Syntax.{chroma, tmapCicp, gainMapDimension, gainMapFormat, gainMapHeader, cclv, cclvFor, hdrBoxes, trailingBits}
 use Rattle.mini.specs.Cclv.{cclvMore}
+use Rattle.mini.specs.declared.SampleFormat.the-variants.{Integer}
+use Rattle.mini.specs.declared.TmapCicp.the-variants as tmap-is
+use Rattle.mini.specs.declared.Dimensions.{Dimensions}
+use Rattle.mini.specs.declared.GainMapHeader.{GainMapHeader}
+use Rattle.mini.specs.declared.MiniHdrBoxes.{MiniHdrBoxes}
 use Rattle.mini.specs.declared.Header.{Header}
 use Rattle.mini.specs.declared.MinimizedImage.{MinimizedImage}
 use Rattle.mini.specs.declared.Reading.{Reading}
@@ -36,6 +41,35 @@ pub run-trailing : {s : List ℕ} {b c d : State} {v : ℕ} (n : ℕ) → n ≡ 
 unfolding pastTrailingBits trailingBits
 run-trailing {s} {b} n h e f =
     sym (ap (λ (x : Unit {0} × State). x .1) (run-exactly n 0 8 tt e f .eq)) ∙ ap (λ (k : ℕ). trailingBits k .parse s b .1) h
+
+-- ---- without the HDR flag nothing is read
+abbrev pub noGainMap : GainMapHeader
+noGainMap =
+    record {
+      present = false;
+      «same_dimensions» = false;
+      width = 0;
+      height = 0;
+      «matrix_coefficients» = 0;
+      «full_range» = false;
+      subsampling = 0;
+      chroma = record { subsampling = 0; «horizontally_centered» = false; «vertically_centered» = false };
+      float = false;
+      format = Integer 0;
+      «tmap_icc» = false;
+      «tmap_explicit_cicp» = false;
+      «tmap_cicp» = tmap-is.Absent;
+    }
+
+pub run-no-gain-map : {s : List ℕ} {b : State} {v : GainMapHeader} (t : Bool) (d : Dimensions) → t ≡ false → v ≡ noGainMap → Run (gainMapHeader t d) s b v b
+unfolding gainMapHeader gainMapDimension gainMapFormat chroma tmapCicp _>>=_ view
+run-no-gain-map {s} {b} t d e f =
+    record { eq = ap (λ (t : Bool). gainMapHeader t d .parse s b) e ∙ ap (λ (v : GainMapHeader). (v, b)) (sym f) }
+
+pub run-no-hdr-boxes : {s : List ℕ} {b : State} {v : MiniHdrBoxes} (t : Bool) → t ≡ false → v ≡ blankHdrBoxes → Run (hdrBoxes t) s b v b
+unfolding hdrBoxes cclvFor _>>=_ view
+run-no-hdr-boxes {s} {b} t e f =
+    record { eq = ap (λ (t : Bool). hdrBoxes t .parse s b) e ∙ ap (λ (v : MiniHdrBoxes). (v, b)) (sym f) }
 
 -- ---- the three answers of placing the chunks
 module _ (s : List ℕ) (h : Header) (b : State) where
@@ -72,9 +106,3 @@ module _ (s : List ℕ) (h : Header) (b : State) where
 
 pub reading-eq : {r : Reading} {n : ℕ} {i : MinimizedImage} → r .refusal ≡ n → r .image ≡ i → r ≡ record { refusal = n; image = i }
 reading-eq e f = ap₂ (λ (n : ℕ) (i : MinimizedImage). record { refusal = n; image = i }) e f
-
--- ---- no HDR bodies
-pub run-no-boxes : {s : List ℕ} {b : State} (t : Bool) → t ≡ false → Run (hdrBoxes t) s b blankHdrBoxes b
-unfolding hdrBoxes cclvFor _>>=_ view
-run-no-boxes true h = absurd (true≢false h)
-run-no-boxes false h = record { eq = refl }

@@ -1,4 +1,5 @@
 // The gain map's part of the header, before the HDR boxes.
+ghost use mathlib.Core.Bool.{true};
 ghost use mathlib.Core.Path.{_≡_};
 ghost use Rattle.bits.specs.Run.{state, Run};
 ghost use Rattle.mini.specs.Syntax.{tmapCicp, gainMapDimension, gainMapFormat, gainMapHeader};
@@ -87,10 +88,10 @@ fn read_format_if(b: Bits, payload: &[u8], present: bool, float: bool) -> Format
     }
 }
 
-pub fn read_gain_map_header(b: Bits, payload: &[u8], hdr: bool, d: Dimensions) -> GainMapRead
-    ensures { λ r. ⌜ Run (gainMapHeader hdr d) (now (payload .entry)) (state b) (r .value) (state (r .next)) ⌝ }
+fn read_with_hdr(b: Bits, payload: &[u8], d: Dimensions) -> GainMapRead
+    ensures { λ r. ⌜ Run (gainMapHeader true d) (now (payload .entry)) (state b) (r .value) (state (r .next)) ⌝ }
 {
-    let present = b.flag_if(payload, hdr);
+    let present = b.flag(payload);
     let b1 = present.next;
     let same = b1.flag_if(payload, present.value);
     let b2 = same.next;
@@ -136,5 +137,17 @@ pub fn read_gain_map_header(b: Bits, payload: &[u8], hdr: bool, d: Dimensions) -
             tmap_cicp,
         },
         next,
+    }
+}
+
+// Nothing is read where the flag is not set: most pictures have no HDR part.
+pub fn read_gain_map_header(b: Bits, payload: &[u8], hdr: bool, d: Dimensions) -> GainMapRead
+    ensures { λ r. ⌜ Run (gainMapHeader hdr d) (now (payload .entry)) (state b) (r .value) (state (r .next)) ⌝ }
+{
+    if hdr {
+        read_with_hdr(b, payload, d)
+    } else {
+        let value = crate::blank::no_gain_map();
+        GainMapRead { value, next: b }
     }
 }

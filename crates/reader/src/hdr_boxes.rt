@@ -1,8 +1,8 @@
 // The HDR bodies of one picture.
+ghost use mathlib.Core.Bool.{true};
 ghost use mathlib.Core.Path.{_≡_};
 ghost use Prim.Native.Nat.{_≤_};
 ghost use Rattle.bits.specs.Run.{state, Run};
-ghost use Rattle.mini.specs.Blank.{blankHdrBoxes};
 ghost use Rattle.mini.specs.Syntax.{cclv, cclvFor, hdrBoxes};
 ghost use Rattle.mini.specs.Cclv.{cclvMore};
 use bits::Bits;
@@ -45,21 +45,20 @@ fn read_cclv_if(b: Bits, payload: &[u8], on: bool) -> Body37Read
     }
 }
 
-// The six flags and the bodies.
-fn read_flags_and_bodies(b: Bits, payload: &[u8], on: bool) -> HdrBoxesRead
-    ensures { λ r. ⌜ Run (hdrBoxes on) (now (payload .entry)) (state b) (r .value) (state (r .next)) ⌝ }
+fn read_present_hdr_boxes(b: Bits, payload: &[u8]) -> HdrBoxesRead
+    ensures { λ r. ⌜ Run (hdrBoxes true) (now (payload .entry)) (state b) (r .value) (state (r .next)) ⌝ }
 {
-    let has_clli = b.flag_if(payload, on);
+    let has_clli = b.flag(payload);
     let b1 = has_clli.next;
-    let has_mdcv = b1.flag_if(payload, on);
+    let has_mdcv = b1.flag(payload);
     let b2 = has_mdcv.next;
-    let has_cclv = b2.flag_if(payload, on);
+    let has_cclv = b2.flag(payload);
     let b3 = has_cclv.next;
-    let has_amve = b3.flag_if(payload, on);
+    let has_amve = b3.flag(payload);
     let b4 = has_amve.next;
-    let has_reve = b4.flag_if(payload, on);
+    let has_reve = b4.flag(payload);
     let b5 = has_reve.next;
-    let has_ndwt = b5.flag_if(payload, on);
+    let has_ndwt = b5.flag(payload);
     let b6 = has_ndwt.next;
     let clli_read = b6.body4_if(payload, has_clli.value);
     let clli = clli_read.value;
@@ -98,33 +97,14 @@ fn read_flags_and_bodies(b: Bits, payload: &[u8], on: bool) -> HdrBoxesRead
     }
 }
 
-pub fn blank_hdr_boxes() -> MiniHdrBoxes
-    ensures { λ r. ⌜ r ≡ blankHdrBoxes ⌝ }
-{
-    MiniHdrBoxes {
-        has_clli: false,
-        has_mdcv: false,
-        has_cclv: false,
-        has_amve: false,
-        has_reve: false,
-        has_ndwt: false,
-        clli: [0; 4],
-        mdcv: [0; 24],
-        cclv: [0; 37],
-        amve: [0; 8],
-        reve: [0; 20],
-        ndwt: [0; 4],
-    }
-}
-
-// Where there are none, which is so in most payloads, nothing is read.
+// Nothing is read where the flag is not set: most pictures have no HDR part.
 pub fn read_hdr_boxes(b: Bits, payload: &[u8], on: bool) -> HdrBoxesRead
     ensures { λ r. ⌜ Run (hdrBoxes on) (now (payload .entry)) (state b) (r .value) (state (r .next)) ⌝ }
 {
     if on {
-        read_flags_and_bodies(b, payload, on)
+        read_present_hdr_boxes(b, payload)
     } else {
-        let value = blank_hdr_boxes();
+        let value = crate::blank::blank_hdr_boxes();
         HdrBoxesRead { value, next: b }
     }
 }

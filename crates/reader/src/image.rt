@@ -2,7 +2,7 @@
 ghost use mathlib.Core.Path.{_≡_};
 ghost use Prim.Native.Nat.{_+_, _≤_};
 ghost use Rattle.bits.specs.Run.{state};
-ghost use Rattle.mini.specs.Blank.{blankGainMap, blankImage};
+ghost use Rattle.mini.specs.Blank.{blankImage};
 ghost use Rattle.mini.specs.Chunks.{storedSizes, storedPlaces, chunkIf, spanIf};
 ghost use Rattle.mini.specs.Image.{gainMapOf, imageOf};
 ghost use Rattle.mini.specs.Cut.{sum};
@@ -11,78 +11,13 @@ use bits::Bits;
 use mini::Chunk;
 use mini::ChunkPlaces;
 use mini::ChunkSizes;
-use mini::ExplicitCicp;
-use mini::ExplicitCodecTypes;
 use mini::GainMapHeader;
 use mini::Header;
-use mini::MiniChroma;
 use mini::MiniGainMap;
 use mini::MiniHdrBoxes;
 use mini::MinimizedImage;
 use mini::Reading;
-use mini::SampleFormat;
 use mini::Span;
-use mini::TmapCicp;
-
-fn blank_gain_map() -> MiniGainMap
-    ensures { λ r. ⌜ r ≡ blankGainMap ⌝ }
-{
-    let tmap_hdr = crate::hdr_boxes::blank_hdr_boxes();
-    MiniGainMap {
-        width: 0,
-        height: 0,
-        matrix_coefficients: 0,
-        full_range: false,
-        chroma: MiniChroma {
-            subsampling: 0,
-            horizontally_centered: false,
-            vertically_centered: false,
-        },
-        format: SampleFormat::Integer { bits: 0 },
-        tmap_cicp: TmapCicp::Absent,
-        tmap_icc: Chunk::Absent,
-        tmap_hdr,
-        metadata: Span { at: 0, len: 0 },
-        codec_config: Chunk::Absent,
-        data: Span { at: 0, len: 0 },
-    }
-}
-
-// The blank record.
-pub fn blank_image() -> MinimizedImage
-    ensures { λ r. ⌜ r ≡ blankImage ⌝ }
-{
-    let hdr_boxes = crate::hdr_boxes::blank_hdr_boxes();
-    let gain_map = blank_gain_map();
-    MinimizedImage {
-        explicit_codec_types: ExplicitCodecTypes::Absent,
-        format: SampleFormat::Integer { bits: 0 },
-        full_range: false,
-        chroma: MiniChroma {
-            subsampling: 0,
-            horizontally_centered: false,
-            vertically_centered: false,
-        },
-        orientation: 0,
-        width: 0,
-        height: 0,
-        explicit_cicp: ExplicitCicp::Absent,
-        icc: Chunk::Absent,
-        alpha: false,
-        alpha_premultiplied: false,
-        hdr: false,
-        hdr_boxes,
-        has_gain_map: false,
-        gain_map,
-        main_codec_config: Span { at: 0, len: 0 },
-        main_data: Span { at: 0, len: 0 },
-        alpha_codec_config: Chunk::Absent,
-        alpha_data: Span { at: 0, len: 0 },
-        exif_xmp_compressed: false,
-        exif: Chunk::Absent,
-        xmp: Chunk::Absent,
-    }
-}
 
 fn chunk_if(on: bool, at: usize, len: usize) -> Chunk
     ensures { λ r. ⌜ r ≡ chunkIf on at len ⌝ }
@@ -249,7 +184,7 @@ fn image_of(h: Header, at: usize) -> MinimizedImage
 fn refused(refusal: u8) -> Reading
     ensures { λ r. ⌜ (r .refusal ≡ refusal) × (r .image ≡ blankImage) ⌝ }
 {
-    let image = blank_image();
+    let image = crate::blank::blank_image();
     Reading { refusal, image }
 }
 

@@ -7,6 +7,7 @@ ghost use Rattle.mini.specs.Cut.{sum};
 ghost use Rattle.mini.specs.Read.{readMini};
 ghost use Rattle.mini.specs.Syntax.{header};
 
+pub mod blank;
 pub mod chunks;
 pub mod fields;
 pub mod gain_map;

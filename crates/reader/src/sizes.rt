@@ -23,6 +23,7 @@ fn any_of(a: bool, b: bool, c: bool, d: bool) -> bool
     bits::either(bits::either(bits::either(a, b), c), d)
 }
 
+// The eleven sizes are of 28 bits at most, so their sum is at most 11 * 2^28.
 pub fn read_sizes(b: Bits, payload: &[u8], f: Flags, g: GainMapHeader) -> SizesRead
     ensures { λ r. ⌜ Run (chunkSizes f g) (now (payload .entry)) (state b) (r .value) (state (r .next)) ⌝ }
     ensures { λ r. ⌜ sum (storedSizes (r .value)) ≤ 2952790016 ⌝ }

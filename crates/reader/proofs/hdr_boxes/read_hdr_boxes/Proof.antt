@@ -1,11 +1,14 @@
-use Rattle.reader.specs.Rules.{run-no-boxes}
+-- `reader::hdr_boxes::read_hdr_boxes` meets its contract. Assumes nothing.
+use Rattle.reader.specs.Rules.{run-no-hdr-boxes}
 use borrow.Author.Needs.{needs}
 use Rattle.reader.proofs.hdr_boxes.read_hdr_boxes.Statement.{statement}
 use Rattle.reader.proofs.hdr_boxes.read_hdr_boxes.Tie as tie
 
+returns : tie.Need-returns
+returns c = rw (c .before .if1 .taken) (c .read-present-hdr-boxes .ensures)
+
 returns-2 : tie.Need-returns-2
-returns-2 c = rw (c .blank-hdr-boxes .ensures) (run-no-boxes _ (c .before .if1 .left))
+returns-2 c = run-no-hdr-boxes _ (c .before .if1 .left) (c .blank-hdr-boxes .ensures)
 
 pub read-hdr-boxes-spec : {M : Type 1} → statement M
-read-hdr-boxes-spec =
-    tie.close (tie.spec (λ c κs. search needs) (λ c κs. search needs) (λ c. search needs) returns-2)
+read-hdr-boxes-spec = tie.close (tie.spec (λ c κs. search needs) (λ c κs. search needs) returns returns-2)

@@ -1,7 +1,7 @@
--- `reader::image::blank_gain_map` meets its contract. Assumes nothing.
+-- `reader::blank::blank_gain_map` meets its contract. Assumes nothing.
 use borrow.Author.Needs.{needs}
-use Rattle.reader.proofs.image.blank_gain_map.Statement.{statement}
-use Rattle.reader.proofs.image.blank_gain_map.Tie as tie
+use Rattle.reader.proofs.blank.blank_gain_map.Statement.{statement}
+use Rattle.reader.proofs.blank.blank_gain_map.Tie as tie
 
 returns : tie.Need-returns
 returns c = simp (c .blank-hdr-boxes .ensures)

@@ -1,7 +1,7 @@
--- `reader::image::blank_image` meets its contract. Assumes nothing.
+-- `reader::blank::blank_image` meets its contract. Assumes nothing.
 use borrow.Author.Needs.{needs}
-use Rattle.reader.proofs.image.blank_image.Statement.{statement}
-use Rattle.reader.proofs.image.blank_image.Tie as tie
+use Rattle.reader.proofs.blank.blank_image.Statement.{statement}
+use Rattle.reader.proofs.blank.blank_image.Tie as tie
 
 returns : tie.Need-returns
 returns c = simp (c .before .blank-hdr-boxes .ensures, c .blank-gain-map .ensures)

@@ -1,0 +1,10 @@
+-- `bits::writer::BitWriter::size_if` meets its contract. Assumes nothing.
+use borrow.Author.Needs.{needs}
+use Rattle.bits.proofs.writer.BitWriter.size_if.Statement.{statement}
+use Rattle.bits.proofs.writer.BitWriter.size_if.Tie as tie
+
+returns : tie.Need-returns
+returns c = rw (c .before .before .before .before .width .ensures .0) at (c .before .before .put-if .ensures)
+
+pub size-if-spec : {M : Type 1} → statement M
+size-if-spec = tie.close (tie.spec (λ c κs. search needs) (λ c κs. search needs) (λ c. search needs) returns)
