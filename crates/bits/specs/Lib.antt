@@ -4,5 +4,3 @@ pub mod Near
 pub mod Run
 pub mod State
 pub mod Window
-pub mod Writer
-pub mod WriterLaws

@@ -11,8 +11,6 @@ ghost use Rattle.bits.specs.Format.{field, flag, fieldIf, flagIf, minus1
 ghost use Rattle.bits.specs.Run.{state, Run};
 ghost use Rattle.bits.specs.Window.{windowAt};
 
-pub mod writer;
-
 // Both, either and one of two, as calls: `&&`, `||` and `if` in an argument would be branches.
 pub fn both(a: bool, b: bool) -> bool
     ensures { λ r. ⌜ r ≡ (a && b) ⌝ }
@@ -24,6 +22,12 @@ pub fn either(a: bool, b: bool) -> bool
     ensures { λ r. ⌜ r ≡ (a || b) ⌝ }
 {
     if a { true } else { b }
+}
+
+pub fn any_of(a: bool, b: bool, c: bool, d: bool) -> bool
+    ensures { λ r. ⌜ r ≡ (a || b || c || d) ⌝ }
+{
+    either(either(either(a, b), c), d)
 }
 
 pub fn pick(first: bool, a: u8, b: u8) -> u8
@@ -238,7 +242,7 @@ fn body37(data: &[u8], byte: usize, bit: usize, here: bool, first: u8, k: usize)
 }
 
 // The width of a field of a long or a short form, of 28 bits at most.
-fn width(large: bool, long: u32, short: u32) -> u32
+pub fn width(large: bool, long: u32, short: u32) -> u32
     requires { ⌜ (long ≤ 28) × (short ≤ 28) ⌝ }
     ensures { λ r. ⌜ (r ≡ sized large long short) × (r ≤ 28) ⌝ }
 {

@@ -7,11 +7,13 @@ ghost use Rattle.exports.specs.Answer.{Answered};
 ghost use Rattle.mini.specs.Read.{readMini};
 ghost use Rattle.layout.specs.HeaderBytes.{headerBytes};
 ghost use Rattle.layout.specs.RecordBytes.{recordBytes};
+ghost use Rattle.writer.specs.ToBox.{boxOf};
 use boxes::parse_box_header;
 use layout::header::put_header;
 use layout::record::put_record;
 use layout::record::record_len;
 use reader::parse;
+use rewriter::rewrite;
 
 // Reads the header of the box at `start` of `buf`, for every buffer and every start.
 #[no_mangle]
@@ -48,4 +50,13 @@ pub extern "C" fn bustardcase_read(payload: &[u8], out: &mut [u8]) -> u64
     }
     put_record(out, 0, image);
     needed as u64
+}
+
+// Writes the record of a payload as a box, in its shortest form, for every payload.
+#[no_mangle]
+pub extern "C" fn bustardcase_rewrite(payload: &[u8], out: &mut [u8]) -> u64
+    ensures { λ r. ⌜ Answered (readMini (now (payload .entry)) .refusal) (boxOf (readMini (now (payload .entry)) .image) (now (payload .entry))) (now (out .entry)) (now (out .exit)) r ⌝ }
+{
+    let written = rewrite(payload, out);
+    answer::of_written(written.refusal, written.len)
 }

@@ -93,7 +93,7 @@ near-main f =
     (near-chroma (f .subsampling) then λ c. near-format (f .float) then λ o. near-flag-if (f .alpha) then λ p. near-cicp (f .«explicit_cicp»)
     then λ i. near-codec-types (f .«explicit_codec_types»))
 
-cclv-most : (f : ℕ) → 8 * cclvMore f ≤ 288
+pub cclv-most : (f : ℕ) → 8 * cclvMore f ≤ 288
 unfolding cclvMore
 cclv-most f = omega arith
 

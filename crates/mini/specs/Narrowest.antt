@@ -19,7 +19,7 @@ use Rattle.mini.specs.Write.{Choices, least, headerWith}
 use Rattle.mini.specs.declared.MinimizedImage.{MinimizedImage}
 
 -- ---- tests
-or-none : (a b : Bool) → (a || b) ≡ false → (a ≡ false) × (b ≡ false)
+pub or-none : (a b : Bool) → (a || b) ≡ false → (a ≡ false) × (b ≡ false)
 or-none true b e = absurd (true≢false e)
 or-none false b e = (refl, e)
 
@@ -27,12 +27,12 @@ none-or : (a b : Bool) → a ≡ false → b ≡ false → (a || b) ≡ false
 none-or true b e f = e
 none-or false b e f = f
 
-flag-good : (b : Bool) → flag .Good b
+pub flag-good : (b : Bool) → flag .Good b
 unfolding view
 flag-good true = (lit≤ tt, refl)
 flag-good false = (lit≤ tt, refl)
 
-flagIf-good : (t b : Bool) → (t ≡ false → b ≡ false) → flagIf t .Good b
+pub flagIf-good : (t b : Bool) → (t ≡ false → b ≡ false) → flagIf t .Good b
 flagIf-good true b h = flag-good b
 flagIf-good false b h = h refl
 
@@ -72,7 +72,7 @@ at-most-more : (b v : ℕ) → ltb (2 ^ b) v ≡ false → v - 1 < 2 ^ b
 at-most-more b v e = omega (arith, ltb-false (2 ^ b) v e, pow-pos b)
 
 -- ---- a gain map's dimension is one that a field could hold, whether it is stored or not
-gain-more : (has same large : Bool) (main v : ℕ) → gainMapDimension has same large main .Good v → minus1 (sized large 15 7) .Good main
+pub gain-more : (has same large : Bool) (main v : ℕ) → gainMapDimension has same large main .Good v → minus1 (sized large 15 7) .Good main
     → minus1If has (sized large 15 7) .Good v
 unfolding gainMapDimension _>>=_ view
 gain-more true true large main v g m = subst (λ (k : ℕ). minus1 (sized large 15 7) .Good k) (sym g) m
@@ -135,7 +135,7 @@ true-both : (a b : Bool) → (a && b) ≡ true → (a ≡ true) × (b ≡ true)
 true-both true b e = (refl, e)
 true-both false b e = absurd (false≢true e)
 
-flagIf-off : (t b : Bool) → flagIf t .Good b → t ≡ false → b ≡ false
+pub flagIf-off : (t b : Bool) → flagIf t .Good b → t ≡ false → b ≡ false
 flagIf-off true b g e = absurd (true≢false e)
 flagIf-off false b g e = g
 

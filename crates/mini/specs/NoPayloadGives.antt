@@ -1,38 +1,88 @@
--- The document's list of what no payload gives, each as a fact about every record that can be written (and so about every record read).
--- Assumes nothing.
+-- What no payload gives, as document 01 lists it ('The record and its order of bits': 'No payload gives: ..'), and that no record that can
+-- be written has one of these faults (so none that is read). That the list is complete stands in ListIsExact. Assumes nothing.
 use mathlib.Core.Path.{_≡_, refl, sym, ap, _∙_}
 use mathlib.Core.Bool.{Bool, true, false, _&&_, _||_, true≢false, false≢true}
-use mathlib.Core.List.{List}
 use Prim.Native.Nat.{ℕ, _-_, _^_, _≤_, _<_}
 use native.Mathlib.Nat.{lt-of-lt-of-le}
 use native.Mathlib.Omega.{arith}
-use lib.Dec.{T, eqb, ltb, ltb→lt, lit≤}
+use lib.Dec.{T, eqb, ltb, ltb→lt, lt→ltb, lit≤}
 use lib.Pow.{pow-mono, pow-pos}
-use lib.ListN.{replicate}
 use borrow.Author.Tests.{le-ltb}
-use Rattle.mini.specs.declared.TmapCicp.the-variants as tmap-is
-use Rattle.bits.specs.Format.{_>>=_, and-split, fieldIf, minus1If, flagIf, sized, bytesFor, view}
-use Rattle.mini.specs.Syntax.{header, flags, dimensions, mainFormat, gainMapHeader, gainMapDimension, gainMapFormat, hdrBoxes, chunkSizes, chroma, cclvFor, cclv, tmapCicp}
-use Rattle.mini.specs.Views.{isFloat, cclvTo, cclvFrom, hasTmapCicp}
+use Rattle.bits.specs.Format.{_>>=_, and-split, fieldIf, minus1If, flagIf, sized, view}
+use Rattle.mini.specs.Syntax.{header, flags, dimensions, mainFormat, gainMapHeader, gainMapDimension, chunkSizes}
+use Rattle.mini.specs.Views.{hasTmapCicp}
 use Rattle.mini.specs.Blank.{blankHdrBoxes, blankGainMap}
 use Rattle.mini.specs.Chunks.{isPresent}
 use Rattle.mini.specs.Same.{chunkLen, unplacedChunk, unplaced}
 use Rattle.mini.specs.Write.{notEmpty, Choices, least, headerWith, headerOf, writable}
 use Rattle.mini.specs.RecordHeader.{parts}
+use Rattle.mini.specs.Narrowest.{flagIf-off, gain-more}
+use Rattle.mini.specs.Ranges.{Within, FormatIn, format-iff, gain-format-iff, CicpIn, cicp-iff, TypesIn, types-iff, TmapIn, tmap-iff, Centred, chroma-iff, Bodies, boxes-iff}
 use Rattle.mini.specs.declared.Chunk.{Chunk}
 use Rattle.mini.specs.declared.Chunk.the-variants.{Absent, Present}
-use Rattle.mini.specs.declared.SampleFormat.{SampleFormat}
-use Rattle.mini.specs.declared.SampleFormat.the-variants.{Integer}
 use Rattle.mini.specs.declared.TmapCicp.{TmapCicp}
+use Rattle.mini.specs.declared.TmapCicp.the-variants as tmap-is
 use Rattle.mini.specs.declared.MiniChroma.{MiniChroma}
-use Rattle.mini.specs.declared.MiniHdrBoxes.{MiniHdrBoxes}
 use Rattle.mini.specs.declared.MinimizedImage.{MinimizedImage}
 
--- ---- what a format's parts say where their flag is off
-flag-off : (t b : Bool) → flagIf t .Good b → t ≡ false → b ≡ false
-flag-off true b g e = absurd (true≢false e)
-flag-off false b g e = g
+-- ---- the list: each line says that a record does not have the fault named above it
+pub record Lawful (i : MinimizedImage) : Type 0 where
+  -- a centring flag that the subsampling doesn't store
+  pub main-centred : Centred (i .chroma)
+  pub gain-centred : Centred (i .«gain_map» .chroma)
+  -- premultiplied without alpha; alpha bytes without alpha
+  pub premultiplied : i .alpha ≡ false → i .«alpha_premultiplied» ≡ false
+  pub alpha-bytes : i .alpha ≡ false → i .«alpha_data» .len ≡ 0
+  -- an empty alpha or gain-map configuration held as present
+  pub alpha-config-empty : T (notEmpty (i .«alpha_codec_config»))
+  pub gain-config-empty : T (notEmpty (i .«gain_map» .«codec_config»))
+  -- either without its data
+  pub alpha-config-alone : i .«alpha_data» .len ≡ 0 → chunkLen (i .«alpha_codec_config») ≡ 0
+  pub gain-config-alone : i .«gain_map» .«data» .len ≡ 0 → chunkLen (i .«gain_map» .«codec_config») ≡ 0
+  -- an empty ICC (tone-map's too), Exif or XMP held as present
+  pub icc-empty : T (notEmpty (i .icc))
+  pub tmap-icc-empty : T (notEmpty (i .«gain_map» .«tmap_icc»))
+  pub exif-empty : T (notEmpty (i .exif))
+  pub xmp-empty : T (notEmpty (i .xmp))
+  -- gain map or HDR body without hdr
+  pub gain-hdr : i .hdr ≡ false → i .«has_gain_map» ≡ false
+  pub boxes-hdr : i .hdr ≡ false → i .«hdr_boxes» ≡ blankHdrBoxes
+  -- an absent gain map that isn't blank (positions aside)
+  pub gain-blank : i .«has_gain_map» ≡ false → unplaced i .«gain_map» ≡ blankGainMap
+  -- a non-zero byte in an absent HDR body or after a cclv's length; and a body that isn't bytes of its fixed number
+  pub boxes-bodies : Bodies (i .«hdr_boxes»)
+  pub tmap-bodies : Bodies (i .«gain_map» .«tmap_hdr»)
+  -- compressed without Exif or XMP
+  pub compressed : (isPresent (i .exif) || isPresent (i .xmp)) ≡ false → i .«exif_xmp_compressed» ≡ false
+  -- empty main data
+  pub main-data : 1 ≤ i .«main_data» .len
+  -- a number outside its field: the main picture's
+  pub orientation : Within 1 8 (i .orientation)
+  pub width : Within 1 32768 (i .width)
+  pub height : Within 1 32768 (i .height)
+  pub subsampling : i .chroma .subsampling ≤ 3
+  pub format : FormatIn (i .format)
+  pub cicp : CicpIn (i .«explicit_cicp»)
+  pub codec-types : TypesIn (i .«explicit_codec_types»)
+  -- the gain map's
+  pub gain-width : i .«has_gain_map» ≡ true → Within 1 32768 (i .«gain_map» .width)
+  pub gain-height : i .«has_gain_map» ≡ true → Within 1 32768 (i .«gain_map» .height)
+  pub gain-matrix : i .«gain_map» .«matrix_coefficients» ≤ 255
+  pub gain-subsampling : i .«gain_map» .chroma .subsampling ≤ 3
+  pub gain-format : i .«has_gain_map» ≡ true → FormatIn (i .«gain_map» .format)
+  pub tmap-cicp : TmapIn (i .«gain_map» .«tmap_cicp»)
+  -- the sizes
+  pub icc-size : chunkLen (i .icc) ≤ 1048576
+  pub tmap-icc-size : chunkLen (i .«gain_map» .«tmap_icc») ≤ 1048576
+  pub exif-size : chunkLen (i .exif) ≤ 1048576
+  pub xmp-size : chunkLen (i .xmp) ≤ 1048576
+  pub metadata-size : i .«gain_map» .metadata .len ≤ 1048575
+  pub main-size : i .«main_data» .len ≤ 268435456
+  pub alpha-size : i .«alpha_data» .len ≤ 268435455
+  pub gain-size : i .«gain_map» .«data» .len ≤ 268435455
+  pub config-size : (i .«main_codec_config» .len ≤ 4095) × (chunkLen (i .«alpha_codec_config») ≤ 4095) × (chunkLen (i .«gain_map» .«codec_config») ≤ 4095)
 
+-- ---- what a field says where its flag is off, where it is on, and at most
 field-off : (t : Bool) (n v : ℕ) → fieldIf t n .Good v → t ≡ false → v ≡ 0
 field-off true n v g e = absurd (true≢false e)
 field-off false n v g e = g
@@ -60,97 +110,11 @@ unfolding gainMapDimension _>>=_ view
 gain-off true same large main v g e = absurd (true≢false e)
 gain-off false same large main v g e = g
 
-format-off : (has float : Bool) (f : SampleFormat) → gainMapFormat has float .Good f → has ≡ false → f ≡ Integer 0
-unfolding gainMapFormat _>>=_ view
-format-off true float f g e = absurd (true≢false e)
-format-off false float f g e = g
-
-tmap-off : (t : Bool) (c : TmapCicp) → tmapCicp t .Good c → t ≡ false → c ≡ tmap-is.Absent
-unfolding tmapCicp _>>=_ view
-tmap-off true c g e = absurd (true≢false e)
-tmap-off false c g e = g
-
-body-off : (t : Bool) (n : ℕ) (l : List ℕ) → bytesFor t n .Good l → t ≡ false → l ≡ replicate n 0
-unfolding _>>=_ view
-body-off true n l g e = absurd (true≢false e)
-body-off false n l g e = g
-
-cclv-off : (t : Bool) (l : List ℕ) → cclvFor t .Good l → t ≡ false → l ≡ replicate 37 0
-unfolding cclvFor _>>=_ view
-cclv-off true l g e = absurd (true≢false e)
-cclv-off false l g e = g
-
-cclv-on : (t : Bool) (l : List ℕ) → cclvFor t .Good l → t ≡ true → cclvTo (cclvFrom l) ≡ l
-unfolding cclvFor cclv _>>=_ view
-cclv-on true l g e = g .1
-cclv-on false l g e = absurd (false≢true e)
-
--- a centring flag that the subsampling doesn't store
-pub record Centred (c : MiniChroma) : Type 0 where
-  pub horizontal-stored : (eqb (c .subsampling) 1 || eqb (c .subsampling) 2) ≡ false → c .«horizontally_centered» ≡ false
-  pub vertical-stored : eqb (c .subsampling) 1 ≡ false → c .«vertically_centered» ≡ false
-
-centred : (c : MiniChroma) → chroma (c .subsampling) .Good c → Centred c
-unfolding chroma _>>=_ view
-centred c g =
-    record {
-      horizontal-stored = flag-off (eqb (c .subsampling) 1 || eqb (c .subsampling) 2) (c .«horizontally_centered») (g .0 .0);
-      vertical-stored = flag-off (eqb (c .subsampling) 1) (c .«vertically_centered») (g .0 .1);
-    }
-
 blank-chroma : (c : MiniChroma) → Centred c → c .subsampling ≡ 0 → c ≡ record { subsampling = 0; «horizontally_centered» = false; «vertically_centered» = false }
 blank-chroma c k e =
     let h = k .horizontal-stored (ap (λ (x : ℕ). eqb x 1 || eqb x 2) e) in
     let v = k .vertical-stored (ap (λ (x : ℕ). eqb x 1) e) in
     λ j. record { subsampling = e j; «horizontally_centered» = h j; «vertically_centered» = v j }
-
--- an absent HDR body is zeros, and so is what follows a cclv's length
-pub record Bodies (b : MiniHdrBoxes) : Type 0 where
-  pub no-clli : b .«has_clli» ≡ false → b .clli ≡ replicate 4 0
-  pub no-mdcv : b .«has_mdcv» ≡ false → b .mdcv ≡ replicate 24 0
-  pub no-cclv : b .«has_cclv» ≡ false → b .cclv ≡ replicate 37 0
-  pub no-amve : b .«has_amve» ≡ false → b .amve ≡ replicate 8 0
-  pub no-reve : b .«has_reve» ≡ false → b .reve ≡ replicate 20 0
-  pub no-ndwt : b .«has_ndwt» ≡ false → b .ndwt ≡ replicate 4 0
-  pub after-cclv : b .«has_cclv» ≡ true → cclvTo (cclvFrom (b .cclv)) ≡ b .cclv
-
-bodies : (on : Bool) (b : MiniHdrBoxes) → hdrBoxes on .Good b → Bodies b
-unfolding hdrBoxes _>>=_ view
-bodies on b g =
-    record {
-      no-clli = body-off (b .«has_clli») 4 (b .clli) (g .0 .1 .1 .1 .1 .1 .1 .0);
-      no-mdcv = body-off (b .«has_mdcv») 24 (b .mdcv) (g .0 .1 .1 .1 .1 .1 .1 .1 .0);
-      no-cclv = cclv-off (b .«has_cclv») (b .cclv) (g .0 .1 .1 .1 .1 .1 .1 .1 .1 .0);
-      no-amve = body-off (b .«has_amve») 8 (b .amve) (g .0 .1 .1 .1 .1 .1 .1 .1 .1 .1 .0);
-      no-reve = body-off (b .«has_reve») 20 (b .reve) (g .0 .1 .1 .1 .1 .1 .1 .1 .1 .1 .1 .0);
-      no-ndwt = body-off (b .«has_ndwt») 4 (b .ndwt) (g .0 .1 .1 .1 .1 .1 .1 .1 .1 .1 .1 .1);
-      after-cclv = cclv-on (b .«has_cclv») (b .cclv) (g .0 .1 .1 .1 .1 .1 .1 .1 .1 .0);
-    }
-
-no-boxes : (on : Bool) (b : MiniHdrBoxes) → hdrBoxes on .Good b → on ≡ false → b ≡ blankHdrBoxes
-unfolding hdrBoxes _>>=_ view
-no-boxes on b g e =
-    let z = bodies on b g in
-    let f0 = flag-off on (b .«has_clli») (g .0 .0) e in
-    let f1 = flag-off on (b .«has_mdcv») (g .0 .1 .0) e in
-    let f2 = flag-off on (b .«has_cclv») (g .0 .1 .1 .0) e in
-    let f3 = flag-off on (b .«has_amve») (g .0 .1 .1 .1 .0) e in
-    let f4 = flag-off on (b .«has_reve») (g .0 .1 .1 .1 .1 .0) e in
-    let f5 = flag-off on (b .«has_ndwt») (g .0 .1 .1 .1 .1 .1 .0) e in
-    λ j. record {
-      «has_clli» = f0 j;
-      «has_mdcv» = f1 j;
-      «has_cclv» = f2 j;
-      «has_amve» = f3 j;
-      «has_reve» = f4 j;
-      «has_ndwt» = f5 j;
-      clli = z .no-clli f0 j;
-      mdcv = z .no-mdcv f1 j;
-      cclv = z .no-cclv f2 j;
-      amve = z .no-amve f3 j;
-      reve = z .no-reve f4 j;
-      ndwt = z .no-ndwt f5 j;
-    }
 
 no-chunk : (c : Chunk) → isPresent c ≡ false → unplacedChunk c ≡ Absent
 no-chunk Absent e = refl
@@ -160,41 +124,6 @@ no-config : (c : Chunk) → T (notEmpty c) → chunkLen c ≡ 0 → unplacedChun
 no-config Absent h e = refl
 no-config (Present at len) h e = absurd (omega (arith, ltb→lt 0 len h))
 
--- ---- the list
-pub record Lawful (i : MinimizedImage) : Type 0 where
-  pub main-centred : Centred (i .chroma)
-  pub gain-centred : Centred (i .«gain_map» .chroma)
-  pub premultiplied : i .alpha ≡ false → i .«alpha_premultiplied» ≡ false
-  pub alpha-bytes : i .alpha ≡ false → i .«alpha_data» .len ≡ 0
-  pub alpha-config-empty : T (notEmpty (i .«alpha_codec_config»))
-  pub gain-config-empty : T (notEmpty (i .«gain_map» .«codec_config»))
-  pub alpha-config-alone : i .«alpha_data» .len ≡ 0 → chunkLen (i .«alpha_codec_config») ≡ 0
-  pub gain-config-alone : i .«gain_map» .«data» .len ≡ 0 → chunkLen (i .«gain_map» .«codec_config») ≡ 0
-  pub icc-empty : isPresent (i .icc) ≡ true → 1 ≤ chunkLen (i .icc)
-  pub tmap-icc-empty : isPresent (i .«gain_map» .«tmap_icc») ≡ true → 1 ≤ chunkLen (i .«gain_map» .«tmap_icc»)
-  pub exif-empty : isPresent (i .exif) ≡ true → 1 ≤ chunkLen (i .exif)
-  pub xmp-empty : isPresent (i .xmp) ≡ true → 1 ≤ chunkLen (i .xmp)
-  pub gain-hdr : i .hdr ≡ false → i .«has_gain_map» ≡ false
-  pub boxes-hdr : i .hdr ≡ false → i .«hdr_boxes» ≡ blankHdrBoxes
-  pub gain-blank : i .«has_gain_map» ≡ false → unplaced i .«gain_map» ≡ blankGainMap
-  pub bodies-zero : Bodies (i .«hdr_boxes»)
-  pub gain-bodies-zero : Bodies (i .«gain_map» .«tmap_hdr»)
-  pub compressed : (isPresent (i .exif) || isPresent (i .xmp)) ≡ false → i .«exif_xmp_compressed» ≡ false
-  pub main-data : 1 ≤ i .«main_data» .len
-  -- a number outside its field
-  pub orientation : (1 ≤ i .orientation) × (i .orientation ≤ 8)
-  pub width : (1 ≤ i .width) × (i .width ≤ 32768)
-  pub height : (1 ≤ i .height) × (i .height ≤ 32768)
-  pub icc-size : chunkLen (i .icc) ≤ 1048576
-  pub tmap-icc-size : chunkLen (i .«gain_map» .«tmap_icc») ≤ 1048576
-  pub exif-size : chunkLen (i .exif) ≤ 1048576
-  pub xmp-size : chunkLen (i .xmp) ≤ 1048576
-  pub metadata-size : i .«gain_map» .metadata .len ≤ 1048575
-  pub main-size : i .«main_data» .len ≤ 268435456
-  pub alpha-size : i .«alpha_data» .len ≤ 268435455
-  pub gain-size : i .«gain_map» .«data» .len ≤ 268435455
-  pub config-size : (i .«main_codec_config» .len ≤ 4095) × (chunkLen (i .«alpha_codec_config») ≤ 4095) × (chunkLen (i .«gain_map» .«codec_config») ≤ 4095)
-
 and-zero : (a : Bool) (n : ℕ) → n ≡ 0 → (a && ltb 0 n) ≡ false
 and-zero true n e = le-ltb 0 n (omega arith)
 and-zero false n e = refl
@@ -202,6 +131,14 @@ and-zero false n e = refl
 and-on : (has t : Bool) → flagIf has .Good t → t ≡ true → (has && t) ≡ true
 and-on true t g e = e
 and-on false t g e = absurd (false≢true (sym g ∙ e))
+
+no-tmap : (c : TmapCicp) → hasTmapCicp c ≡ false → c ≡ tmap-is.Absent
+no-tmap tmap-is.Absent e = refl
+no-tmap (tmap-is.Present p t m f) e = absurd (true≢false e)
+
+held : (c : Chunk) → (isPresent c ≡ true → 1 ≤ chunkLen c) → T (notEmpty c)
+held Absent h = tt
+held (Present at len) h = lt→ltb 0 len (h refl)
 
 blank-gain : (i : MinimizedImage) (c : Choices) → header .Good (headerWith i c) → T (notEmpty (i .«gain_map» .«codec_config»)) → i .«has_gain_map» ≡ false → unplaced i .«gain_map» ≡ blankGainMap
 unfolding headerWith gainMapHeader chunkSizes unplaced _>>=_ view
@@ -212,12 +149,12 @@ blank-gain i c good gc e =
     let w = gain-off has (c .same) (c .large) (i .width) (m .width) (g .gain-map-ok .0 .1 .1 .0) e in
     let h = gain-off has (c .same) (c .large) (i .height) (m .height) (g .gain-map-ok .0 .1 .1 .1 .0) e in
     let x = field-off has 8 (m .«matrix_coefficients») (g .gain-map-ok .0 .1 .1 .1 .1 .0) e in
-    let f = flag-off has (m .«full_range») (g .gain-map-ok .0 .1 .1 .1 .1 .1 .0) e in
-    let ch = blank-chroma (m .chroma) (centred (m .chroma) (g .gain-map-ok .0 .1 .1 .1 .1 .1 .1 .1 .0)) (field-off has 2 (m .chroma .subsampling) (g .gain-map-ok .0 .1 .1 .1 .1 .1 .1 .0) e) in
-    let fo = format-off has (isFloat (m .format)) (m .format) (g .gain-map-ok .0 .1 .1 .1 .1 .1 .1 .1 .1 .1 .0) e in
-    let ci = tmap-off (hasTmapCicp (m .«tmap_cicp»)) (m .«tmap_cicp») (g .gain-map-ok .0 .1 .1 .1 .1 .1 .1 .1 .1 .1 .1 .1 .1) (flag-off has (hasTmapCicp (m .«tmap_cicp»)) (g .gain-map-ok .0 .1 .1 .1 .1 .1 .1 .1 .1 .1 .1 .1 .0) e) in
-    let ic = no-chunk (m .«tmap_icc») (flag-off has (isPresent (m .«tmap_icc»)) (g .gain-map-ok .0 .1 .1 .1 .1 .1 .1 .1 .1 .1 .1 .0) e) in
-    let bo = no-boxes has (m .«tmap_hdr») (g .tmap-hdr-ok) e in
+    let f = flagIf-off has (m .«full_range») (g .gain-map-ok .0 .1 .1 .1 .1 .1 .0) e in
+    let ch = blank-chroma (m .chroma) (chroma-iff (m .chroma) .0 (g .gain-map-ok .0 .1 .1 .1 .1 .1 .1 .1 .0)) (field-off has 2 (m .chroma .subsampling) (g .gain-map-ok .0 .1 .1 .1 .1 .1 .1 .0) e) in
+    let fo = gain-format-iff has (m .format) .0 (g .gain-map-ok .0 .1 .1 .1 .1 .1 .1 .1 .1 .1 .0) .0 e in
+    let ci = no-tmap (m .«tmap_cicp») (flagIf-off has (hasTmapCicp (m .«tmap_cicp»)) (g .gain-map-ok .0 .1 .1 .1 .1 .1 .1 .1 .1 .1 .1 .1 .0) e) in
+    let ic = no-chunk (m .«tmap_icc») (flagIf-off has (isPresent (m .«tmap_icc»)) (g .gain-map-ok .0 .1 .1 .1 .1 .1 .1 .1 .1 .1 .1 .0) e) in
+    let bo = boxes-iff has (m .«tmap_hdr») .0 (g .tmap-hdr-ok) .1 e in
     let me = field-off has _ (m .metadata .len) (g .sizes-ok .0 .1 .1 .1 .1 .1 .0) e in
     let co = field-off has _ (m .«data» .len) (g .sizes-ok .0 .1 .1 .1 .1 .1 .1 .0) e in
     let cf = no-config (m .«codec_config») gc (field-off (has && ltb 0 (m .«data» .len)) _ (chunkLen (m .«codec_config»)) (g .sizes-ok .0 .1 .1 .1 .1 .1 .1 .1 .0) (and-zero has _ co)) in
@@ -241,35 +178,49 @@ unfolding headerWith flags dimensions mainFormat gainMapHeader chunkSizes unplac
 lawful-of i c good ac gc =
     let g = parts (headerWith i c) good in
     let has = i .«has_gain_map» in
-    let mc = centred (i .chroma) (g .main-ok .0 .0) in
-    let kc = centred (i .«gain_map» .chroma) (g .gain-map-ok .0 .1 .1 .1 .1 .1 .1 .1 .0) in
+    let m = i .«gain_map» in
+    let w = g .dimensions-ok .0 .1 .0 in
+    let h = g .dimensions-ok .0 .1 .1 in
+    let gw = gain-more has (c .same) (c .large) (i .width) (m .width) (g .gain-map-ok .0 .1 .1 .0) w in
+    let gh = gain-more has (c .same) (c .large) (i .height) (m .height) (g .gain-map-ok .0 .1 .1 .1 .0) h in
+    let boxes = boxes-iff (i .hdr) (i .«hdr_boxes») .0 (g .hdr-ok) in
     let acl : i .«alpha_data» .len ≡ 0 → chunkLen (i .«alpha_codec_config») ≡ 0 = λ e. field-off (i .alpha && ltb 0 (i .«alpha_data» .len)) _ _ (g .sizes-ok .0 .1 .1 .1 .1 .1 .1 .1 .1 .1 .1 .1 .0) (and-zero (i .alpha) _ e) in
-    let gcl : i .«gain_map» .«data» .len ≡ 0 → chunkLen (i .«gain_map» .«codec_config») ≡ 0 = λ e. field-off (has && ltb 0 (i .«gain_map» .«data» .len)) _ _ (g .sizes-ok .0 .1 .1 .1 .1 .1 .1 .1 .0) (and-zero has _ e) in
+    let gcl : m .«data» .len ≡ 0 → chunkLen (m .«codec_config») ≡ 0 = λ e. field-off (has && ltb 0 (m .«data» .len)) _ _ (g .sizes-ok .0 .1 .1 .1 .1 .1 .1 .1 .0) (and-zero has _ e) in
     record {
-      main-centred = mc;
-      gain-centred = kc;
-      premultiplied = flag-off (i .alpha) (i .«alpha_premultiplied») (g .main-ok .0 .1 .1 .0);
+      main-centred = chroma-iff (i .chroma) .0 (g .main-ok .0 .0);
+      gain-centred = chroma-iff (m .chroma) .0 (g .gain-map-ok .0 .1 .1 .1 .1 .1 .1 .1 .0);
+      premultiplied = flagIf-off (i .alpha) (i .«alpha_premultiplied») (g .main-ok .0 .1 .1 .0);
       alpha-bytes = field-off (i .alpha) _ _ (g .sizes-ok .0 .1 .1 .1 .1 .1 .1 .1 .1 .1 .1 .0);
       alpha-config-empty = ac;
       gain-config-empty = gc;
       alpha-config-alone = acl;
       gain-config-alone = gcl;
-      icc-empty = more-on (isPresent (i .icc)) _ _ (g .sizes-ok .0 .1 .1 .1 .0);
-      tmap-icc-empty = λ e. more-on (has && isPresent (i .«gain_map» .«tmap_icc»)) _ _ (g .sizes-ok .0 .1 .1 .1 .1 .0) (and-on has _ (g .gain-map-ok .0 .1 .1 .1 .1 .1 .1 .1 .1 .1 .1 .0) e);
-      exif-empty = more-on (isPresent (i .exif)) _ _ (g .sizes-ok .0 .1 .1 .1 .1 .1 .1 .1 .1 .1 .1 .1 .1 .1 .0);
-      xmp-empty = more-on (isPresent (i .xmp)) _ _ (g .sizes-ok .0 .1 .1 .1 .1 .1 .1 .1 .1 .1 .1 .1 .1 .1 .1);
-      gain-hdr = flag-off (i .hdr) has (g .gain-map-ok .0 .0);
-      boxes-hdr = no-boxes (i .hdr) (i .«hdr_boxes») (g .hdr-ok);
+      icc-empty = held (i .icc) (more-on (isPresent (i .icc)) _ _ (g .sizes-ok .0 .1 .1 .1 .0));
+      tmap-icc-empty = held (m .«tmap_icc») (λ e. more-on (has && isPresent (m .«tmap_icc»)) _ _ (g .sizes-ok .0 .1 .1 .1 .1 .0) (and-on has _ (g .gain-map-ok .0 .1 .1 .1 .1 .1 .1 .1 .1 .1 .1 .0) e));
+      exif-empty = held (i .exif) (more-on (isPresent (i .exif)) _ _ (g .sizes-ok .0 .1 .1 .1 .1 .1 .1 .1 .1 .1 .1 .1 .1 .1 .0));
+      xmp-empty = held (i .xmp) (more-on (isPresent (i .xmp)) _ _ (g .sizes-ok .0 .1 .1 .1 .1 .1 .1 .1 .1 .1 .1 .1 .1 .1 .1));
+      gain-hdr = flagIf-off (i .hdr) has (g .gain-map-ok .0 .0);
+      boxes-hdr = boxes .1;
       gain-blank = λ e. blank-gain i c good gc e;
-      bodies-zero = bodies (i .hdr) (i .«hdr_boxes») (g .hdr-ok);
-      gain-bodies-zero = bodies has (i .«gain_map» .«tmap_hdr») (g .tmap-hdr-ok);
-      compressed = flag-off (isPresent (i .exif) || isPresent (i .xmp)) (i .«exif_xmp_compressed») (g .sizes-ok .0 .1 .1 .1 .1 .1 .1 .1 .1 .1 .1 .1 .1 .0);
+      boxes-bodies = boxes .0;
+      tmap-bodies = boxes-iff has (m .«tmap_hdr») .0 (g .tmap-hdr-ok) .0;
+      compressed = flagIf-off (isPresent (i .exif) || isPresent (i .xmp)) (i .«exif_xmp_compressed») (g .sizes-ok .0 .1 .1 .1 .1 .1 .1 .1 .1 .1 .1 .1 .1 .0);
       main-data = more-on true _ _ (g .sizes-ok .0 .1 .1 .1 .1 .1 .1 .1 .1 .1 .0) refl;
       orientation = (more-on true 3 _ (g .flags-ok .0 .0 .1 .1 .1 .1 .1 .1 .1 .1 .1 .1 .1) refl, more-below true true 3 3 _ (lit≤ tt) (g .flags-ok .0 .0 .1 .1 .1 .1 .1 .1 .1 .1 .1 .1 .1));
-      width = (more-on true _ _ (g .dimensions-ok .0 .1 .0) refl, more-below true (c .large) 15 7 _ (lit≤ tt) (g .dimensions-ok .0 .1 .0));
-      height = (more-on true _ _ (g .dimensions-ok .0 .1 .1) refl, more-below true (c .large) 15 7 _ (lit≤ tt) (g .dimensions-ok .0 .1 .1));
+      width = (more-on true _ _ w refl, more-below true (c .large) 15 7 _ (lit≤ tt) w);
+      height = (more-on true _ _ h refl, more-below true (c .large) 15 7 _ (lit≤ tt) h);
+      subsampling = omega (arith, g .flags-ok .0 .0 .1 .1 .1 .1 .1 .1 .1 .1 .1 .1 .0);
+      format = format-iff (i .format) .0 (g .main-ok .0 .1 .0);
+      cicp = cicp-iff (i .«explicit_cicp») .0 (g .main-ok .0 .1 .1 .1 .0);
+      codec-types = types-iff (i .«explicit_codec_types») .0 (g .main-ok .0 .1 .1 .1 .1);
+      gain-width = λ e. (more-on has _ _ gw e, more-below has (c .large) 15 7 _ (lit≤ tt) gw);
+      gain-height = λ e. (more-on has _ _ gh e, more-below has (c .large) 15 7 _ (lit≤ tt) gh);
+      gain-matrix = omega (arith, field-below has true 8 8 _ (lit≤ tt) (g .gain-map-ok .0 .1 .1 .1 .1 .0));
+      gain-subsampling = omega (arith, field-below has true 2 2 _ (lit≤ tt) (g .gain-map-ok .0 .1 .1 .1 .1 .1 .1 .0));
+      gain-format = gain-format-iff has (m .format) .0 (g .gain-map-ok .0 .1 .1 .1 .1 .1 .1 .1 .1 .1 .0) .1;
+      tmap-cicp = tmap-iff (m .«tmap_cicp») .0 (g .gain-map-ok .0 .1 .1 .1 .1 .1 .1 .1 .1 .1 .1 .1 .1);
       icc-size = more-below (isPresent (i .icc)) (c .metadata) 20 10 _ (lit≤ tt) (g .sizes-ok .0 .1 .1 .1 .0);
-      tmap-icc-size = more-below (has && isPresent (i .«gain_map» .«tmap_icc»)) (c .metadata) 20 10 _ (lit≤ tt) (g .sizes-ok .0 .1 .1 .1 .1 .0);
+      tmap-icc-size = more-below (has && isPresent (m .«tmap_icc»)) (c .metadata) 20 10 _ (lit≤ tt) (g .sizes-ok .0 .1 .1 .1 .1 .0);
       exif-size = more-below (isPresent (i .exif)) (c .metadata) 20 10 _ (lit≤ tt) (g .sizes-ok .0 .1 .1 .1 .1 .1 .1 .1 .1 .1 .1 .1 .1 .1 .0);
       xmp-size = more-below (isPresent (i .xmp)) (c .metadata) 20 10 _ (lit≤ tt) (g .sizes-ok .0 .1 .1 .1 .1 .1 .1 .1 .1 .1 .1 .1 .1 .1 .1);
       metadata-size = omega (arith, field-below has (c .metadata) 20 10 _ (lit≤ tt) (g .sizes-ok .0 .1 .1 .1 .1 .1 .0));
@@ -279,7 +230,7 @@ lawful-of i c good ac gc =
       config-size = (
         omega (arith, field-below true (c .config) 12 3 _ (lit≤ tt) (g .sizes-ok .0 .1 .1 .1 .1 .1 .1 .1 .1 .0)),
         omega (arith, field-below (i .alpha && ltb 0 (i .«alpha_data» .len)) (c .config) 12 3 _ (lit≤ tt) (g .sizes-ok .0 .1 .1 .1 .1 .1 .1 .1 .1 .1 .1 .1 .0)),
-        omega (arith, field-below (has && ltb 0 (i .«gain_map» .«data» .len)) (c .config) 12 3 _ (lit≤ tt) (g .sizes-ok .0 .1 .1 .1 .1 .1 .1 .1 .0)),
+        omega (arith, field-below (has && ltb 0 (m .«data» .len)) (c .config) 12 3 _ (lit≤ tt) (g .sizes-ok .0 .1 .1 .1 .1 .1 .1 .1 .0)),
       );
     }
 

@@ -21,16 +21,16 @@ header-told s =
     let b = header .parse s (clean 0) .1 in
     trailingBits (bitsToBoundary (b .at)) .told s b (header .told s (clean 0) tt)
 
-at-most-nine : (b : State) → T (isReadingState b) → b .refusal ≤ 9
-at-most-nine b h = go (eqb (b .refusal) 0) (isReadingRefusal (b .refusal)) (λ t. eqb→eq (b .refusal) 0 t) (λ t. leb→le (b .refusal) 9 (and-split (leb 5 (b .refusal)) (leb (b .refusal) 9) t .1)) h
+at-most-nine : (r : ℕ) → T (eqb r 0 || isReadingRefusal r) → r ≤ 9
+at-most-nine r h = go (eqb r 0) (isReadingRefusal r) (λ t. eqb→eq r 0 t) (λ t. leb→le r 9 (and-split (leb 5 r) (leb r 9) t .1)) h
   where
-    go : (t u : Bool) → (T t → b .refusal ≡ 0) → (T u → b .refusal ≤ 9) → T (t || u) → b .refusal ≤ 9
+    go : (t u : Bool) → (T t → r ≡ 0) → (T u → r ≤ 9) → T (t || u) → r ≤ 9
     go true u p q h = let e = p tt in omega arith
     go false true p q h = q tt
     go false false p q h = absurd h
 
 pub header-at-most-nine : (s : List ℕ) → pastTrailingBits s (header .parse s (clean 0) .1) .refusal ≤ 9
-header-at-most-nine s = at-most-nine (pastTrailingBits s (header .parse s (clean 0) .1)) (header-told s)
+header-at-most-nine s = at-most-nine (pastTrailingBits s (header .parse s (clean 0) .1) .refusal) (header-told s)
 
 same-number : (t : Bool) (r : ℕ) (i : MinimizedImage) → T (eqb r 0 || isReadingRefusal r)
     → T (eqb (readingIf t r i .refusal) 0 || isReadingRefusal (readingIf t r i .refusal))
@@ -44,3 +44,6 @@ reading-refusals s =
     let b = pastTrailingBits s (r .1) in
     let t = endWithin (length s) (b .at / 8) (storedSizes (r .0 .sizes)) in
     same-number (eqb (test b t 9 .refusal) 0) (test b t 9 .refusal) (imageOf (r .0) (b .at / 8)) (test-told 9 tt b t (header-told s))
+
+pub reading-at-most-nine : (s : List ℕ) → readMini s .refusal ≤ 9
+reading-at-most-nine s = at-most-nine (readMini s .refusal) (reading-refusals s)

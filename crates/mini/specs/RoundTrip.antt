@@ -2,7 +2,7 @@
 -- Assumes nothing.
 use mathlib.Core.Path.{_≡_, refl, sym, ap, ap₂, _∙_, subst}
 use mathlib.Core.Bool.{Bool, true, false, not, _&&_, _||_, true≢false}
-use mathlib.Core.Logic.{_↔_, _⊎_, inl, inr}
+use mathlib.Core.Logic.{_⊎_, inl, inr}
 use mathlib.Core.List.{List, [], _∷_, _++_, append-assoc, append-nil, map}
 use Prim.Native.Nat.{ℕ, _+_, _≤_, _<_}
 use native.Mathlib.Omega.{arith}
@@ -319,7 +319,3 @@ shortest s i t bs r =
     let hi : headerOf j ≡ headerOf i = sym (header-unplaced j) ∙ ap headerOf u ∙ header-unplaced i in
     let q : payloadOf j s ≡ payloadOf i t = ap₂ (λ (x : Header) (y : List (List ℕ)). payloadWith x y) hi k in
     subst (λ (y : List ℕ). (s ≡ y) ⊎ (length y < length s)) q (shortest-of s h bs (reads-inv s (r .took)))
-
--- ---- refusal 11, as the document has it: a record is writable exactly where some payload reads to it
-pub some-payload : (i : MinimizedImage) (s : List ℕ) → T (wellPlaced i s) → T (writable i) ↔ ((q : List ℕ) × ReadsTo q i s)
-some-payload i s w = (λ h. (payloadOf i s, written i s w h), λ x. reads-writable (x .0) i s (x .1))

@@ -1,5 +1,7 @@
 // The record of a MinimizedImageBox, the parts of its header, and what a reading gives (ISO/IEC 23008-12 Amd 2, Annex O).
 ghost use mathlib.Core.Path.{_≡_};
+ghost use Prim.Native.Nat.{_≤_};
+ghost use Rattle.mini.specs.Cclv.{cclvMore};
 ghost use Rattle.mini.specs.Chunks.{isPresent};
 ghost use Rattle.mini.specs.Cicp.{tableCicp, cicpOf};
 ghost use Rattle.mini.specs.DisplayProfile.{meetsDisplayProfile};
@@ -220,6 +222,25 @@ pub struct Cicp {
     pub matrix: u8,
 }
 
+// The number of an item in the equivalent file (mini.rs, item_id); document 01: the numbers 1 to 7 belong to the item kind.
+pub struct ItemKind(pub u16);
+
+impl ItemKind {
+    pub const MAIN: u16 = 1;
+
+    pub const ALPHA: u16 = 2;
+
+    pub const TMAP: u16 = 3;
+
+    pub const GAIN_MAP: u16 = 4;
+
+    pub const ALTR_GROUP: u16 = 5;
+
+    pub const EXIF: u16 = 6;
+
+    pub const XMP: u16 = 7;
+}
+
 const MAX_DISPLAY_WIDTH: u32 = 1920;
 
 const MAX_DISPLAY_HEIGHT: u32 = 1080;
@@ -244,6 +265,15 @@ impl SampleFormat {
             SampleFormat::Float { bits: _ } => true,
         }
     }
+}
+
+// How many bytes follow a cclv's first.
+pub fn cclv_more(flags: u8) -> usize
+    ensures { λ r. ⌜ r ≡ cclvMore flags ⌝ }
+    ensures { λ r. ⌜ r ≤ 36 ⌝ }
+{
+    let f = flags as usize;
+    24 * (f / 32 % 2) + 4 * (f / 16 % 2) + 4 * (f / 8 % 2) + 4 * (f / 4 % 2)
 }
 
 // The values of Table O.3, with or without an ICC profile.

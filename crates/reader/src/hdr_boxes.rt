@@ -1,10 +1,8 @@
 // The HDR bodies of one picture.
 ghost use mathlib.Core.Bool.{true};
 ghost use mathlib.Core.Path.{_≡_};
-ghost use Prim.Native.Nat.{_≤_};
 ghost use Rattle.bits.specs.Run.{state, Run};
 ghost use Rattle.mini.specs.Syntax.{cclv, cclvFor, hdrBoxes};
-ghost use Rattle.mini.specs.Cclv.{cclvMore};
 use bits::Bits;
 use bits::Body37Read;
 use mini::MiniHdrBoxes;
@@ -14,21 +12,12 @@ pub struct HdrBoxesRead {
     pub next: Bits,
 }
 
-// How many bytes follow a cclv's first.
-pub fn cclv_more(flags: u8) -> usize
-    ensures { λ r. ⌜ r ≡ cclvMore flags ⌝ }
-    ensures { λ r. ⌜ r ≤ 36 ⌝ }
-{
-    let f = flags as usize;
-    24 * (f / 32 % 2) + 4 * (f / 16 % 2) + 4 * (f / 8 % 2) + 4 * (f / 4 % 2)
-}
-
 fn read_cclv(b: Bits, payload: &[u8]) -> Body37Read
     ensures { λ r. ⌜ Run cclv (now (payload .entry)) (state b) (r .value) (state (r .next)) ⌝ }
 {
     let f = b.byte(payload, 8);
     let b1 = f.next;
-    let k = cclv_more(f.value);
+    let k = mini::cclv_more(f.value);
     b1.body37_after(payload, f.value, k)
 }
 

@@ -17,18 +17,12 @@ pub struct SizesRead {
     pub next: Bits,
 }
 
-fn any_of(a: bool, b: bool, c: bool, d: bool) -> bool
-    ensures { λ r. ⌜ r ≡ (a || b || c || d) ⌝ }
-{
-    bits::either(bits::either(bits::either(a, b), c), d)
-}
-
 // The eleven sizes are of 28 bits at most, so their sum is at most 11 * 2^28.
 pub fn read_sizes(b: Bits, payload: &[u8], f: Flags, g: GainMapHeader) -> SizesRead
     ensures { λ r. ⌜ Run (chunkSizes f g) (now (payload .entry)) (state b) (r .value) (state (r .next)) ⌝ }
     ensures { λ r. ⌜ sum (storedSizes (r .value)) ≤ 2952790016 ⌝ }
 {
-    let any = any_of(f.icc, f.exif, f.xmp, g.present);
+    let any = bits::any_of(f.icc, f.exif, f.xmp, g.present);
     let metadata = b.flag_if(payload, any);
     let b1 = metadata.next;
     let config = b1.flag(payload);

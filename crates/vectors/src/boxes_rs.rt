@@ -2,19 +2,12 @@
 ghost use mathlib.Core.Path.{_≡_};
 ghost use Prim.Native.Nat.{_≤_};
 ghost use lib.ListN.{length};
+use crate::print::print;
+use crate::print::print_number;
 use boxes::BoxHeader;
 use boxes::UserType;
 use boxes::parse_box_header;
 use libc::STDOUT_FILENO;
-
-fn print(text: &[u8]) {
-    io::write_all(STDOUT_FILENO, text);
-}
-
-fn print_number(text: &[u8], n: usize) {
-    print(text);
-    io::print_decimal(STDOUT_FILENO, n as u64);
-}
 
 fn header(label: &[u8], buf: &[u8], start: usize) {
     let r = parse_box_header(buf, start);

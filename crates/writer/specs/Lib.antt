@@ -1,4 +1,4 @@
 pub mod Laid
 pub mod Needed
-pub mod Rules
+pub mod Place
 pub mod ToBox

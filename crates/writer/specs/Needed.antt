@@ -8,17 +8,20 @@ use lib.Dec.{T, eqb, ltb}
 use lib.ListN.{length, take, drop, length-append, length-take}
 use borrow.Author.Tests.{lt-ltb, le-ltb}
 use Rattle.octets.specs.Overwrite.{overwrite, Wrote}
-use Rattle.octets.specs.OverwriteLaws.{overwrite-before, overwrite-append}
+use Rattle.octets.specs.OverwriteLaws.{overwrite-before, overwrite-append, length-overwrite}
 use Rattle.boxes.specs.Boxed.{boxed, boxHeader, HeaderPut, length-boxed, length-boxHeader}
 use Rattle.bits.specs.State.{bytesOf}
-use Rattle.bits.specs.Format.{length-bytesOf}
+use Rattle.bits.specs.Format.{length-bytesOf, and-split}
 use Rattle.mini.specs.Cut.{joined}
+use Rattle.mini.specs.HeaderLength.{near-header}
 use Rattle.mini.specs.NoPayloadGives.{lawful}
-use Rattle.mini.specs.Payload.{headerBits, chunksStart}
+use Rattle.mini.specs.Payload.{headerBits, chunksStart, header-padded}
 use Rattle.mini.specs.Same.{chunkLen, chunkBytes, spanBytes, chunksOf, wellPlaced}
+use Rattle.mini.specs.Syntax.{header}
 use Rattle.mini.specs.Write.{headerOf, payloadOf, payloadWith, writable}
 use Rattle.mini.specs.declared.Chunk.{Chunk}
 use Rattle.mini.specs.declared.Chunk.the-variants.{Absent, Present}
+use Rattle.mini.specs.declared.Header.{Header}
 use Rattle.mini.specs.declared.MinimizedImage.{MinimizedImage}
 use Rattle.writer.specs.Laid.{Laid}
 use Rattle.writer.specs.ToBox.{boxOf, refused, written, answer, HeaderHeld}
@@ -66,6 +69,16 @@ pub payload-length : (i : MinimizedImage) (s : List ℕ) → length (payloadOf i
 unfolding payloadOf payloadWith
 payload-length i s = simp (length-append, length-bytesOf)
 
+start-small : (h : Header) → header .Good h → chunksStart h ≤ 251
+start-small h good = let l : length (header .print h) ≤ 2007 = near-header .long h good in omega (arith, header-padded h)
+
+-- no box reaches the size that a 32-bit size field cannot tell
+pub box-small : (i : MinimizedImage) (s : List ℕ) → T (writable i) → length (boxOf i s) < 4294967296
+unfolding boxOf writable
+box-small i s w =
+    let a = start-small (headerOf i) (header .dec (headerOf i) .0 (and-split (header .good (headerOf i)) _ w .0)) in
+    omega (arith, chunks-small i s w, payload-length i s, length-boxed 0x6D696E69 (payloadOf i s))
+
 pub record Needed (i : MinimizedImage) (s : List ℕ) (k : ℕ) : Type 0 where
   pub is : k ≡ length (boxOf i s)
   pub payload : k ≡ 8 + length (payloadOf i s)
@@ -87,3 +100,33 @@ too-short i s o n h =
     ap (λ (j : ℕ). refused 16 j o) (n .is)
     ∙ sym (ap (λ (t : Bool). cond t (refused 16 (length (boxOf i s)) o) (record { refusal = 0; len = length (boxOf i s) }, overwrite o 0 (boxOf i s)))
     (lt-ltb (length o) (length (boxOf i s)) (subst (λ (j : ℕ). length o < j) (n .is) h)))
+
+-- the header's bytes, the chunks after them, and the box header in front are the box
+pub boxed-all : (i : MinimizedImage) (s o : List ℕ) (len : ℕ) (bytes : List ℕ) {o₁ o₂ o₃ : List ℕ} {at k m r r' : ℕ} → Needed i s k → k ≤ length o
+    → length o < 2 ^ 64 → HeaderHeld (headerOf i) bytes len → Wrote o 8 m (take (len - 0) bytes) o₁ at → Laid o₁ at (joined (chunksOf i s)) o₂ r
+    → HeaderPut o₂ 0 (k - 8) 0x6D696E69 o₃ r' → _≡_ {A = Written × List ℕ} (record { refusal = 0; len = k }, o₃) (written i s o)
+unfolding written boxOf payloadOf payloadWith boxed
+boxed-all i s o len bytes {o₁} {o₂} {o₃} {at} {k} n room small held w l p =
+    let hb = take (len - 0) bytes in
+    let z : len - 0 ≡ len = omega arith in
+    let e : hb ≡ bytesOf (chunksStart (headerOf i)) (headerBits (headerOf i)) = ap (λ (j : ℕ). take j bytes) z ∙ held .there in
+    let cs = joined (chunksOf i s) in
+    let hs = boxHeader 0x6D696E69 (k - 8) in
+    let lo : length o₁ ≡ length o = ap length (w .left) ∙ length-overwrite o 8 hb in
+    let lb : length hb ≡ chunksStart (headerOf i) = ap length e ∙ length-bytesOf (chunksStart (headerOf i)) (headerBits (headerOf i)) in
+    let a : at ≡ 8 + length hb = omega (arith, w .next, w .size) in
+    let lh : 8 ≡ 0 + length hs = omega (arith, length-boxHeader 0x6D696E69 (k - 8)) in
+    let f : o₂ ≡ overwrite o 8 (hb ++ cs) =
+    l .left (omega (arith, lo)) (omega (arith, lo, lb, a, n .parts))
+    ∙ ap₂ (λ (x : List ℕ) (j : ℕ). overwrite x j cs) (w .left) a
+    ∙ sym (overwrite-append o 8 hb cs) in
+    let g : o₃ ≡ overwrite o 0 (hs ++ (hb ++ cs)) =
+    p .left
+    ∙ ap (λ (x : List ℕ). overwrite x 0 hs) (f ∙ ap (λ (j : ℕ). overwrite o j (hb ++ cs)) lh)
+    ∙ overwrite-before o 0 hs (hb ++ cs) in
+    let lp : k - 8 ≡ length (payloadOf i s) = omega (arith, n .payload) in
+    let b : hs ++ (hb ++ cs) ≡ boxOf i s =
+    ap₂ (λ (j : ℕ) (x : List ℕ). boxHeader 0x6D696E69 j ++ (x ++ cs)) lp e in
+    let f0 : ltb (length o) (length (boxOf i s)) ≡ false = le-ltb (length o) (length (boxOf i s)) (omega (arith, n .is)) in
+    ap₂ (λ (j : ℕ) (x : List ℕ). (record { refusal = 0; len = j }, x)) (n .is) (g ∙ ap (λ (x : List ℕ). overwrite o 0 x) b)
+    ∙ sym (ap (λ (t : Bool). cond t (refused 16 (length (boxOf i s)) o) (record { refusal = 0; len = length (boxOf i s) }, overwrite o 0 (boxOf i s))) f0)

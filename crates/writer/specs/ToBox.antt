@@ -13,16 +13,16 @@ use Rattle.octets.specs.OverwriteLaws as octets-laws
 use Rattle.boxes.specs.Boxed.{boxed}
 use Rattle.bits.specs.Bit.{bitsN, length-bitsN}
 use Rattle.bits.specs.State.{bytesOf}
-use Rattle.bits.specs.Format.{field, view, length-bytesOf}
-use Rattle.bits.specs.Writer.{feed, place, waiting, fits, Fed, Puts}
-use Rattle.bits.specs.WriterLaws.{fed-then, fed-as, feed-bytes, feed-count}
-use Rattle.bits.specs.declared.writer.BitWriter.{BitWriter}
+use Rattle.bits.specs.Format.{field, view, length-bytesOf, and-split}
+use Rattle.bit_writer.specs.Writer.{feed, place, waiting, fits, Fed, Puts}
+use Rattle.bit_writer.specs.WriterLaws.{fed-then, fed-as, feed-bytes, feed-count}
+use Rattle.bit_writer.specs.declared.BitWriter.{BitWriter}
 use Rattle.mini.specs.HeaderLength.{near-header}
 use Rattle.mini.specs.Payload.{headerBits, chunksStart, header-bytes, header-padded}
 use Rattle.mini.specs.Read.{bitsToBoundary}
 use Rattle.mini.specs.Same.{wellPlaced}
 use Rattle.mini.specs.Syntax.{header, trailingBits}
-use Rattle.mini.specs.Write.{payloadOf, writable}
+use Rattle.mini.specs.Write.{headerOf, payloadOf, writable, notEmpty}
 use Rattle.mini.specs.declared.Header.{Header}
 use Rattle.mini.specs.declared.MinimizedImage.{MinimizedImage}
 use Rattle.writer.specs.declared.Written.{Written}
@@ -102,3 +102,45 @@ header-in {h′} h z {o₁} {o₂} {w} {w₁} {w₂} eh lz e p′ q =
           ∙ sym (and-true (header .good h));
       held = λ g. header-held h z o₁ o₂ w w₁ w₂ lz (e .0) (e .1) p q g;
     }
+
+-- ---- a record's header, and whether a payload holds the record
+pub record HeaderOf (i : MinimizedImage) (bytes : List ℕ) (len : ℕ) (t : Bool) : Type 0 where
+  pub ok : t ≡ writable i
+  pub held : T (writable i) → HeaderHeld (headerOf i) bytes len
+
+pub header-of : (i : MinimizedImage) {bytes : List ℕ} {len fault : ℕ} {a g full t : Bool} → HeaderIn (headerOf i) bytes len fault
+    → a ≡ notEmpty (i .«alpha_codec_config») → g ≡ notEmpty (i .«gain_map» .«codec_config») → full ≡ (a && g) → t ≡ (eqb fault 0 && full)
+    → HeaderOf i bytes len t
+unfolding writable
+header-of i h ea eg ef et =
+    record {
+      ok = et ∙ ap₂ (λ (x y : Bool). x && y) (h .ok) (ef ∙ ap₂ (λ (x y : Bool). x && y) ea eg);
+      held = λ w. h .held (header .dec (headerOf i) .0 (and-split (header .good (headerOf i)) _ w .0));
+    }
+
+-- ---- the ways through the answer, by what the code tests: that the record is not well placed, that it is not writable
+off-of : (t : Bool) → not t ≡ true → t ≡ false
+off-of true e = sym e
+off-of false e = refl
+
+on-of : (t : Bool) → not t ≡ false → t ≡ true
+on-of true e = refl
+on-of false e = sym e
+
+module _ (i : MinimizedImage) (s o : List ℕ) {p : Bool} (placed : p ≡ wellPlaced i s) where
+  pub at-10 : not p ≡ true → refused 10 0 o ≡ answer i s o
+  unfolding answer
+  at-10 e = sym (ap (λ (t : Bool). cond t (cond (writable i) (written i s o) (refused 11 0 o)) (refused 10 0 o)) (sym placed ∙ off-of p e))
+
+  pub at-11 : {w : Bool} → not p ≡ false → w ≡ writable i → not w ≡ true → refused 11 0 o ≡ answer i s o
+  unfolding answer
+  at-11 {w} e f g =
+      sym (ap₂ (λ (t u : Bool). cond t (cond u (written i s o) (refused 11 0 o)) (refused 10 0 o)) (sym placed ∙ on-of p e) (sym f ∙ off-of w g))
+
+  pub past-11 : {w : Bool} → not p ≡ false → w ≡ writable i → not w ≡ false → written i s o ≡ answer i s o
+  unfolding answer
+  past-11 {w} e f g =
+      sym (ap₂ (λ (t u : Bool). cond t (cond u (written i s o) (refused 11 0 o)) (refused 10 0 o)) (sym placed ∙ on-of p e) (sym f ∙ on-of w g))
+
+pub taken-on : (i : MinimizedImage) {w : Bool} → w ≡ writable i → not w ≡ false → T (writable i)
+taken-on i {w} f g = subst T (sym (on-of w g) ∙ f) tt

@@ -7,6 +7,8 @@ mod check;
 mod features;
 #[cfg(feature = "read")]
 mod read;
+#[cfg(feature = "rewrite")]
+mod rewrite;
 
 use std::process::ExitCode;
 use std::time::Instant;
@@ -18,6 +20,8 @@ const PARTS: &[Part] = &[
     ("boxes", boxes::compare),
     #[cfg(feature = "read")]
     ("read", read::compare),
+    #[cfg(feature = "rewrite")]
+    ("rewrite", rewrite::compare),
 ];
 
 fn main() -> ExitCode {

@@ -193,7 +193,7 @@ fn first_bits_step() -> Result<u32, String> {
 }
 
 /// The whole payload; of a very long one, which is zero after its header, the beginning.
-fn shown(payload: &[u8]) -> String {
+pub fn shown(payload: &[u8]) -> String {
     if payload.len() <= 1 << 20 {
         return hex(payload);
     }

@@ -1,5 +1,5 @@
 //! Times the exported functions beside the supplied Rust on the same payloads, in one run, by turns:
-//! `bench read`. Each time is the best of many batches, per call.
+//! `bench NAME..`, where a NAME is `read` or `rewrite`. Each time is the best of many batches, per call.
 
 use oracle::payloads::{heavy, payload_of};
 use oracle::plan::Plan;
@@ -14,11 +14,14 @@ const BATCH: Duration = Duration::from_millis(4);
 
 fn main() -> ExitCode {
     let names: Vec<String> = std::env::args().skip(1).collect();
-    match names.iter().map(String::as_str).collect::<Vec<_>>()[..] {
-        ["read"] => bench_read(),
-        _ => {
-            eprintln!("usage: bench read");
-            return ExitCode::from(2);
+    if names.is_empty() || names.iter().any(|n| !["read", "rewrite"].contains(&n.as_str())) {
+        eprintln!("usage: bench NAME.. with NAME among: read rewrite");
+        return ExitCode::from(2);
+    }
+    for name in names {
+        match name.as_str() {
+            "read" => bench_read(),
+            _ => bench_rewrite(),
         }
     }
     ExitCode::SUCCESS
@@ -64,6 +67,37 @@ fn bench_read() {
         ours.push(our);
     }
     println!("ours, 8 MB to 50 kB: {:.2}", ours[3] / ours[2]);
+}
+
+/// Beside the Rust's `parse` and `to_box`, and beside one copy of as many bytes.
+fn bench_rewrite() {
+    println!(
+        "{:<14}{:>10}{:>14}{:>14}{:>14}{:>12}{:>12}",
+        "rewrite", "bytes", "Rust ns", "ours ns", "copy ns", "Rust/ours", "ours/copy"
+    );
+    for (name, payload) in payloads() {
+        let boxed = MinimizedImage::parse(&payload).and_then(|i| i.to_box());
+        let len = boxed.map(|b| b.len()).unwrap_or(0);
+        let mut out = vec![0; len];
+        assert!(len > 8 && ffi::rewrite(&payload, &mut out) == len as u64);
+        let mut copy = vec![0; payload.len()];
+        let [rust, our, copied] = best([
+            &mut || {
+                let image = MinimizedImage::parse(black_box(&payload));
+                let _ = black_box(image.and_then(|i| i.to_box()));
+            },
+            &mut || {
+                black_box(ffi::rewrite(black_box(&payload), black_box(&mut out)));
+            },
+            &mut || black_box(&mut copy[..]).copy_from_slice(black_box(&payload)),
+        ]);
+        println!(
+            "{name:<14}{:>10}{rust:>14.1}{our:>14.1}{copied:>14.1}{:>12.2}{:>12.2}",
+            payload.len(),
+            rust / our,
+            our / copied
+        );
+    }
 }
 
 /// The least time of a call of each, in nanoseconds, the batches of all taken by turns.

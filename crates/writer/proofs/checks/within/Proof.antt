@@ -1,5 +1,5 @@
 -- `writer::checks::within` meets its contract. Assumes nothing.
-use Rattle.writer.specs.Rules.{out-of, in-of}
+use Rattle.writer.specs.Place.{out-of, in-of}
 use borrow.Author.Needs.{needs}
 use Rattle.writer.proofs.checks.within.Statement.{statement}
 use Rattle.writer.proofs.checks.within.Tie as tie

@@ -1,0 +1,28 @@
+-- `bit_writer::store` meets its contract. Assumes nothing.
+use mathlib.Core.Path.{sym}
+use native.Mathlib.Omega.{arith}
+use lib.Seq.{set-out}
+use borrow.Author.Needs.{needs}
+use Rattle.bit_writer.proofs.store.Statement.{statement}
+use Rattle.bit_writer.proofs.store.Tie as tie
+use Rattle.bit_writer.proofs.store.Reads as reads
+use Rattle.bit_writer.proofs.store.Lts as lts
+
+-- src/writer.rt:26:9
+slice-write-out : tie.Need-slice-write-out
+slice-write-out c = search needs
+
+-- src/writer.rt:22:1
+same-length : tie.Need-same-length
+same-length c = search needs
+
+-- src/writer.rt:22:1
+returns : tie.Need-returns
+returns c = search needs
+
+-- src/writer.rt:22:1
+returns-2 : tie.Need-returns-2
+returns-2 c = sym (set-out _ _ _ (omega arith))
+
+pub store-spec : {M : Type 1} → statement M
+store-spec = tie.close (tie.spec slice-write-out same-length returns returns-2)
