@@ -7,6 +7,8 @@ use Prim.Native.Nat.{ℕ, _+_, _*_}
 use lib.Dec.{eqb, ltb}
 use lib.ListN.{length}
 use Rattle.octets.specs.Overwrite.{overwrite}
+use Rattle.mini.specs.Read.{readMini}
+use Rattle.expander.specs.Outcome.{refusalOf}
 
 -- a refusal's number with a length
 abbrev pub packed : ℕ → ℕ → ℕ
@@ -23,3 +25,9 @@ answer refusal bytes out =
 -- an exported function's promise: it returned `r` and left `out'`
 pub record Answered (refusal : ℕ) (bytes out out' : List ℕ) (r : ℕ) : Type 0 where
   pub is : (r, out') ≡ answer refusal bytes out
+
+-- ---- a payload read and then expanded: the reader's refusal, else the expander's
+unfoldable pub expandRefusal : (payload brands : List ℕ) → ℕ
+expandRefusal payload brands =
+    let r = readMini payload in
+    cond (eqb (r .refusal) 0) (refusalOf (r .image) payload brands) (r .refusal)

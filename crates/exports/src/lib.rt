@@ -3,12 +3,14 @@ mod answer;
 
 ghost use mathlib.Core.Path.{_≡_};
 ghost use Rattle.boxes.specs.Header.{headerAt};
-ghost use Rattle.exports.specs.Answer.{Answered};
+ghost use Rattle.expander.specs.EquivalentFile.{file};
+ghost use Rattle.exports.specs.Answer.{Answered, expandRefusal};
 ghost use Rattle.mini.specs.Read.{readMini};
 ghost use Rattle.layout.specs.HeaderBytes.{headerBytes};
 ghost use Rattle.layout.specs.RecordBytes.{recordBytes};
 ghost use Rattle.writer.specs.ToBox.{boxOf};
 use boxes::parse_box_header;
+use expander::entry::equivalent_file;
 use layout::header::put_header;
 use layout::record::put_record;
 use layout::record::record_len;
@@ -59,4 +61,25 @@ pub extern "C" fn bustardcase_rewrite(payload: &[u8], out: &mut [u8]) -> u64
 {
     let written = rewrite(payload, out);
     answer::of_written(written.refusal, written.len)
+}
+
+// Writes the equivalent file of the record of a payload, for every payload and every original file type.
+#[no_mangle]
+pub extern "C" fn bustardcase_expand(
+    payload: &[u8],
+    major: u32,
+    minor: u32,
+    brands: &[u8],
+    out: &mut [u8],
+) -> u64
+    ensures { λ r. ⌜ Answered (expandRefusal (now (payload .entry)) (now (brands .entry))) (file (readMini (now (payload .entry)) .image) (now (payload .entry)) major minor (now (brands .entry))) (now (out .entry)) (now (out .exit)) r ⌝ }
+{
+    let reading = parse(payload);
+    let refusal = reading.refusal;
+    let image = reading.image;
+    if refusal != 0 {
+        return answer::refused(refusal);
+    }
+    let expanded = equivalent_file(image, payload, major, minor, brands, out);
+    answer::of_written(expanded.refusal, expanded.len)
 }

@@ -3,6 +3,8 @@
 
 mod boxes;
 mod check;
+#[cfg(feature = "expand")]
+mod expand;
 #[cfg(feature = "read")]
 mod features;
 #[cfg(feature = "read")]
@@ -22,6 +24,8 @@ const PARTS: &[Part] = &[
     ("read", read::compare),
     #[cfg(feature = "rewrite")]
     ("rewrite", rewrite::compare),
+    #[cfg(feature = "expand")]
+    ("expand", expand::compare),
 ];
 
 fn main() -> ExitCode {

@@ -5,6 +5,7 @@ pub mod answer;
 pub mod bits;
 pub mod box_cases;
 pub mod boxes;
+pub mod expanding;
 pub mod fields;
 pub mod hex;
 pub mod payloads;

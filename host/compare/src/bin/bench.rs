@@ -1,5 +1,5 @@
 //! Times the exported functions beside the supplied Rust on the same payloads, in one run, by turns:
-//! `bench NAME..`, where a NAME is `read` or `rewrite`. Each time is the best of many batches, per call.
+//! `bench NAME..`, where a NAME is `read`, `rewrite` or `expand`. Each time is the best of many batches, per call.
 
 use oracle::payloads::{heavy, payload_of};
 use oracle::plan::Plan;
@@ -7,6 +7,7 @@ use oracle::reading::RECORD_LEN;
 use std::hint::black_box;
 use std::process::ExitCode;
 use std::time::{Duration, Instant};
+use upstream::ftyp::FileType;
 use upstream::mini::MinimizedImage;
 
 const BATCHES: usize = 60;
@@ -14,31 +15,40 @@ const BATCH: Duration = Duration::from_millis(4);
 
 fn main() -> ExitCode {
     let names: Vec<String> = std::env::args().skip(1).collect();
-    if names.is_empty() || names.iter().any(|n| !["read", "rewrite"].contains(&n.as_str())) {
-        eprintln!("usage: bench NAME.. with NAME among: read rewrite");
+    if names.is_empty()
+        || names
+            .iter()
+            .any(|n| !["read", "rewrite", "expand"].contains(&n.as_str()))
+    {
+        eprintln!("usage: bench NAME.. with NAME among: read rewrite expand");
         return ExitCode::from(2);
     }
     for name in names {
         match name.as_str() {
             "read" => bench_read(),
-            _ => bench_rewrite(),
+            "rewrite" => bench_rewrite(),
+            _ => bench_expand(),
         }
     }
     ExitCode::SUCCESS
 }
 
-/// The payloads: the smallest, one with every HDR body and a gain map, and two of much main data.
-fn payloads() -> [(&'static str, Vec<u8>); 4] {
+/// The smallest, one with every HDR body and a gain map, and two of much main data.
+fn plans() -> [(&'static str, Plan); 4] {
     let of_data = |main_data: u32| Plan {
         main_data: main_data - 1,
         ..Plan::smallest()
     };
     [
-        ("smallest", payload_of(&Plan::smallest())),
-        ("header-heavy", payload_of(&heavy(1))),
-        ("50 kB", payload_of(&of_data(50_000))),
-        ("8 MB", payload_of(&of_data(8_000_000))),
+        ("smallest", Plan::smallest()),
+        ("header-heavy", heavy(1)),
+        ("50 kB", of_data(50_000)),
+        ("8 MB", of_data(8_000_000)),
     ]
+}
+
+fn payloads() -> [(&'static str, Vec<u8>); 4] {
+    plans().map(|(name, plan)| (name, payload_of(&plan)))
 }
 
 fn bench_read() {
@@ -88,6 +98,50 @@ fn bench_rewrite() {
             },
             &mut || {
                 black_box(ffi::rewrite(black_box(&payload), black_box(&mut out)));
+            },
+            &mut || black_box(&mut copy[..]).copy_from_slice(black_box(&payload)),
+        ]);
+        println!(
+            "{name:<14}{:>10}{rust:>14.1}{our:>14.1}{copied:>14.1}{:>12.2}{:>12.2}",
+            payload.len(),
+            rust / our,
+            our / copied
+        );
+    }
+}
+
+/// Beside the Rust's `parse` and `equivalent_file`, and beside one copy of as many bytes.
+fn bench_expand() {
+    println!(
+        "{:<14}{:>10}{:>14}{:>14}{:>14}{:>12}{:>12}",
+        "expand", "bytes", "Rust ns", "ours ns", "copy ns", "Rust/ours", "ours/copy"
+    );
+    let brands = *b"mif3";
+    let original = FileType::new(*b"ftyp", brands, 0, vec![brands]);
+    let major = u32::from_be_bytes(brands);
+    for (name, mut plan) in plans() {
+        plan.types = Some([*b"av01", *b"av1C"]);
+        let payload = payload_of(&plan);
+        let file = MinimizedImage::parse(&payload).and_then(|i| i.equivalent_file(&original));
+        let file = file.unwrap_or_default();
+        let mut out = vec![0; file.len()];
+        assert!(
+            ffi::expand(&payload, major, 0, &brands, &mut out) == file.len() as u64 && out == file
+        );
+        let mut copy = vec![0; payload.len()];
+        let [rust, our, copied] = best([
+            &mut || {
+                let image = MinimizedImage::parse(black_box(&payload));
+                let _ = black_box(image.and_then(|i| i.equivalent_file(&original)));
+            },
+            &mut || {
+                black_box(ffi::expand(
+                    black_box(&payload),
+                    major,
+                    0,
+                    &brands,
+                    black_box(&mut out),
+                ));
             },
             &mut || black_box(&mut copy[..]).copy_from_slice(black_box(&payload)),
         ]);

@@ -1,0 +1,138 @@
+use native.Mathlib.Omega.{arith}
+use denote.Ref.{now}
+use mathlib.Core.Path.{_≡_, sym, ap, _∙_}
+use Prim.Native.Nat.{ℕ, _+_}
+use Rattle.ftyp.specs.FileType.{fileTypeLen}
+use Rattle.ftyp.specs.declared.FileType.{FileType}
+use Rattle.items.specs.ItemLocations.{dataLen}
+use Rattle.expander.specs.EquivalentFile.{fileLen, contentStart}
+use Rattle.expander.specs.Placed.{fit, content-most}
+use Rattle.expander.specs.Expands.{expands}
+use Rattle.writer.specs.ToBox.{refused}
+use Rattle.expander.specs.OutcomeLaws.{expand-refused, expand-short, expand-done}
+use Rattle.expander.specs.ExpandedLaws.{promised}
+use borrow.Author.Needs.{needs}
+use Rattle.expander.proofs.entry.equivalent_file.Statement.{statement}
+use Rattle.expander.proofs.entry.equivalent_file.Tie as tie
+
+-- src/entry.rt:75:9
+refusal-of-requires : tie.Need-refusal-of-requires
+refusal-of-requires c κs = search needs
+
+-- src/entry.rt:77:9
+returns : tie.Need-returns
+returns c = let s = now (c .before .before .before .before .before .args .source) in
+    let b = now (c .before .before .before .before .before .args .brands) in
+    let o = now (c .before .before .before .before .before .args .out) in
+    let e = c .before .refusal-of .ensures .0 in
+    promised (c .before .before .before .before .before .args .image) s (c .before .before .before .before .before .args .major) (c .before .before .before .before .before .args .minor) b o
+    (ap (λ (k : ℕ). refused k 0 o) e ∙ expand-refused (c .before .before .before .before .before .args .image) s (c .before .before .before .before .before .args .major) (c .before .before .before .before .before .args .minor) b o (λ z. c .if1 .taken (e ∙ z)))
+
+-- src/entry.rt:79:9
+equivalent-file-type-requires : tie.Need-equivalent-file-type-requires
+equivalent-file-type-requires c κs = search needs
+
+-- src/entry.rt:80:9
+data-lengths-requires : tie.Need-data-lengths-requires
+data-lengths-requires c κs = let s = now (c .before .before .before .before .before .before .args .source) in
+    let b = now (c .before .before .before .before .before .before .args .brands) in
+    let e = sym (c .before .before .refusal-of .ensures .0) ∙ c .before .if1 .left in
+    let x = expands (c .before .before .before .before .before .before .args .image) s b e in
+    let a = fit (c .before .before .before .before .before .before .args .image) s (x .placed) (x .can-write) in
+    a .bounded
+
+-- src/entry.rt:81:9
+content-start-requires : tie.Need-content-start-requires
+content-start-requires c κs = let s = now (c .before .before .before .before .before .before .before .args .source) in
+    let b = now (c .before .before .before .before .before .before .before .args .brands) in
+    let e = sym (c .before .before .before .refusal-of .ensures .0) ∙ c .before .before .if1 .left in
+    let x = expands (c .before .before .before .before .before .before .before .args .image) s b e in
+    let a = fit (c .before .before .before .before .before .before .before .args .image) s (x .placed) (x .can-write) in
+    ((a .properties .bounded, x .brands-allowed), c .data-lengths .ensures)
+
+-- src/entry.rt:82:25
+data-len-requires : tie.Need-data-len-requires
+data-len-requires c κs = let s = now (c .before .before .before .before .before .before .before .before .args .source) in
+    let b = now (c .before .before .before .before .before .before .before .before .args .brands) in
+    let e = sym (c .before .before .before .before .refusal-of .ensures .0) ∙ c .before .before .before .if1 .left in
+    let x = expands (c .before .before .before .before .before .before .before .before .args .image) s b e in
+    let a = fit (c .before .before .before .before .before .before .before .before .args .image) s (x .placed) (x .can-write) in
+    let g = ap dataLen (c .before .data-lengths .ensures) in
+    omega (arith, g, content-most (c .before .before .before .before .before .before .before .before .args .image) (a .bounded))
+
+-- src/entry.rt:82:18
+add-needed : tie.Need-add-needed
+add-needed c = let s = now (c .before .before .before .before .before .before .before .before .before .args .source) in
+    let b = now (c .before .before .before .before .before .before .before .before .before .args .brands) in
+    let e = sym (c .before .before .before .before .before .refusal-of .ensures .0) ∙ c .before .before .before .before .if1 .left in
+    let x = expands (c .before .before .before .before .before .before .before .before .before .args .image) s b e in
+    let a = fit (c .before .before .before .before .before .before .before .before .before .args .image) s (x .placed) (x .can-write) in
+    let f = ap (λ (x : FileType). fileTypeLen x b) (c .before .before .before .equivalent-file-type .ensures) in
+    let g = ap dataLen (c .before .before .data-lengths .ensures) in
+    let m = content-most (c .before .before .before .before .before .before .before .before .before .args .image) (a .bounded) in
+    omega (arith, g, m, c .before .content-start .ensures .1, c .data-len .ensures)
+
+-- src/entry.rt:84:9
+returns-2 : tie.Need-returns-2
+returns-2 c = let s = now (c .before .before .before .before .before .before .before .before .before .before .args .source) in
+    let b = now (c .before .before .before .before .before .before .before .before .before .before .args .brands) in
+    let e = sym (c .before .before .before .before .before .before .refusal-of .ensures .0) ∙ c .before .before .before .before .before .if1 .left in
+    let x = expands (c .before .before .before .before .before .before .before .before .before .before .args .image) s b e in
+    let a = fit (c .before .before .before .before .before .before .before .before .before .before .args .image) s (x .placed) (x .can-write) in
+    let f = ap (λ (x : FileType). fileTypeLen x b) (c .before .before .before .before .equivalent-file-type .ensures) in
+    let g = ap dataLen (c .before .before .before .data-lengths .ensures) in
+    let m = content-most (c .before .before .before .before .before .before .before .before .before .before .args .image) (a .bounded) in
+    let k : c .before .before .content-start .result + c .before .data-len .result ≡ fileLen (c .before .before .before .before .before .before .before .before .before .before .args .image) (c .before .before .before .before .before .before .before .before .before .before .args .major) (c .before .before .before .before .before .before .before .before .before .before .args .minor) b =
+    omega (arith, f, g, c .before .before .content-start .ensures .0, c .before .data-len .ensures) in
+    promised (c .before .before .before .before .before .before .before .before .before .before .args .image) s (c .before .before .before .before .before .before .before .before .before .before .args .major) (c .before .before .before .before .before .before .before .before .before .before .args .minor) b (now (c .before .before .before .before .before .before .before .before .before .before .args .out))
+    (expand-short (c .before .before .before .before .before .before .before .before .before .before .args .image) s (c .before .before .before .before .before .before .before .before .before .before .args .major) (c .before .before .before .before .before .before .before .before .before .before .args .minor) b (now (c .before .before .before .before .before .before .before .before .before .before .args .out)) e k (omega arith))
+
+-- src/entry.rt:89:5
+put-file-requires : tie.Need-put-file-requires
+put-file-requires c κs = let s = now (c .before .before .before .before .before .before .before .before .before .before .before .args .source) in
+    let b = now (c .before .before .before .before .before .before .before .before .before .before .before .args .brands) in
+    let e = sym (c .before .before .before .before .before .before .before .refusal-of .ensures .0) ∙ c .before .before .before .before .before .before .if1 .left in
+    let x = expands (c .before .before .before .before .before .before .before .before .before .before .before .args .image) s b e in
+    let a = fit (c .before .before .before .before .before .before .before .before .before .before .before .args .image) s (x .placed) (x .can-write) in
+    let f = ap (λ (x : FileType). fileTypeLen x b) (c .before .before .before .before .before .equivalent-file-type .ensures) in
+    let g = ap dataLen (c .before .before .before .before .data-lengths .ensures) in
+    let m = content-most (c .before .before .before .before .before .before .before .before .before .before .before .args .image) (a .bounded) in (
+      (omega (arith, g, c .before .before .before .content-start .ensures .0, c .before .before .data-len .ensures), a),
+      (x .brands-allowed, (omega (arith, m, c .before .before .before .content-start .ensures .1), c .before .before .before .before .data-lengths .ensures)),
+    )
+
+-- src/entry.rt:64:1
+same-length : tie.Need-same-length
+same-length c = search needs
+
+-- src/entry.rt:64:1
+returns-3 : tie.Need-returns-3
+returns-3 c = let s = now (c .before .before .before .before .before .before .before .before .before .before .before .before .before .before .args .source) in
+    let b = now (c .before .before .before .before .before .before .before .before .before .before .before .before .before .before .args .brands) in
+    let e = sym (c .before .before .before .before .before .before .before .before .before .before .refusal-of .ensures .0) ∙ c .before .before .before .before .before .before .before .before .before .if1 .left in
+    let x = expands (c .before .before .before .before .before .before .before .before .before .before .before .before .before .before .args .image) s b e in
+    let a = fit (c .before .before .before .before .before .before .before .before .before .before .before .before .before .before .args .image) s (x .placed) (x .can-write) in
+    let f = ap (λ (x : FileType). fileTypeLen x b) (c .before .before .before .before .before .before .before .before .equivalent-file-type .ensures) in
+    let g = ap dataLen (c .before .before .before .before .before .before .before .data-lengths .ensures) in
+    let m = content-most (c .before .before .before .before .before .before .before .before .before .before .before .before .before .before .args .image) (a .bounded) in
+    let k : c .before .before .before .before .before .before .content-start .result + c .before .before .before .before .before .data-len .result ≡ fileLen (c .before .before .before .before .before .before .before .before .before .before .before .before .before .before .args .image) (c .before .before .before .before .before .before .before .before .before .before .before .before .before .before .args .major) (c .before .before .before .before .before .before .before .before .before .before .before .before .before .before .args .minor) b =
+    omega (arith, f, g, c .before .before .before .before .before .before .content-start .ensures .0, c .before .before .before .before .before .data-len .ensures) in
+    let c0 : c .before .before .before .before .before .before .content-start .result ≡ contentStart (c .before .before .before .before .before .before .before .before .before .before .before .before .before .before .args .image) (c .before .before .before .before .before .before .before .before .before .before .before .before .before .before .args .major) (c .before .before .before .before .before .before .before .before .before .before .before .before .before .before .args .minor) b = omega (arith, f, c .before .before .before .before .before .before .content-start .ensures .0) in
+    promised (c .before .before .before .before .before .before .before .before .before .before .before .before .before .before .args .image) s (c .before .before .before .before .before .before .before .before .before .before .before .before .before .before .args .major) (c .before .before .before .before .before .before .before .before .before .before .before .before .before .before .args .minor) b (now (c .before .before .before .before .before .before .before .before .before .before .before .before .before .before .args .out))
+    (expand-done (c .before .before .before .before .before .before .before .before .before .before .before .before .before .before .args .image) s (c .before .before .before .before .before .before .before .before .before .before .before .before .before .before .args .major) (c .before .before .before .before .before .before .before .before .before .before .before .before .before .before .args .minor) b (now (c .before .before .before .before .before .before .before .before .before .before .before .before .before .before .args .out)) e k (omega arith) (c .before .before .before .before .before .before .before .before .equivalent-file-type .ensures) c0 (c .before .before .put-file .ensures))
+
+pub equivalent-file-spec : {M : Type 1} → statement M
+equivalent-file-spec =
+    tie.close
+    (tie.spec
+    refusal-of-requires
+    returns
+    equivalent-file-type-requires
+    data-lengths-requires
+    content-start-requires
+    data-len-requires
+    add-needed
+    returns-2
+    put-file-requires
+    same-length
+    returns-3)

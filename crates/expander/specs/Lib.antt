@@ -1,0 +1,10 @@
+pub mod EquivalentFile
+pub mod EveryByte
+pub mod ExpandedLaws
+pub mod Expands
+pub mod FileLength
+pub mod LocationCounts
+pub mod LocationsInFile
+pub mod Outcome
+pub mod OutcomeLaws
+pub mod Placed

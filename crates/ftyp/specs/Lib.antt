@@ -1,0 +1,2 @@
+pub mod FileType
+pub mod FileTypeLaws

@@ -1,0 +1,9 @@
+pub mod Optional
+pub mod HandlerAndPrimary
+pub mod ItemInfo
+pub mod ItemReferences
+pub mod ItemGroup
+pub mod ItemLocations
+pub mod ReadLocations
+pub mod ItemBytes
+pub mod OneLocation

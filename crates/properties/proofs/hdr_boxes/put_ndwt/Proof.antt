@@ -1,0 +1,16 @@
+use mathlib.Core.Path.{_≡_}
+use lib.ListN.{length}
+use Rattle.properties.specs.HdrBoxes.{ndwt}
+use borrow.Author.Needs.{needs}
+use Rattle.properties.proofs.hdr_boxes.put_ndwt.Statement.{statement}
+use Rattle.properties.proofs.hdr_boxes.put_ndwt.Tie as tie
+
+returns : tie.Need-returns
+unfolding ndwt
+returns c =
+    let h : length (c .before .before .before .before .before .before .args .t3) ≡ 4 = search needs in
+    rw h at (c .before .before .put-full-box .ensures)
+
+pub put-ndwt-spec : {M : Type 1} → statement M
+put-ndwt-spec =
+    tie.close (tie.spec (λ c. search needs) (λ c κs. search needs) (λ c. search needs) returns)

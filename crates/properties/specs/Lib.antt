@@ -1,0 +1,5 @@
+pub mod HdrBoxes
+pub mod Lengths
+pub mod Orientation
+pub mod Pixi
+pub mod Property

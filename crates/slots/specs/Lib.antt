@@ -1,0 +1,10 @@
+pub mod AssociationLaws
+pub mod Associations
+pub mod Bodies
+pub mod Bounds
+pub mod LengthLaws
+pub mod Lengths
+pub mod SlotLaws
+pub mod Slots
+pub mod Sound
+pub mod Used
