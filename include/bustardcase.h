@@ -17,6 +17,14 @@ uint64_t bustardcase_box_header(const uint8_t *buf, size_t buf_len, size_t start
 /* Reads a `mini` payload, and writes its record as 441 bytes. Refusals 5 to 9 and 16. */
 uint64_t bustardcase_read(const uint8_t *payload, size_t payload_len, uint8_t *out, size_t out_len);
 
+/* Reads a `mini` payload, and writes its record as a `mini` box in its shortest form. Refusals 5 to 9 and 16. */
+uint64_t bustardcase_rewrite(const uint8_t *payload, size_t payload_len, uint8_t *out, size_t out_len);
+
+/* Reads a `mini` payload, and writes the equivalent HEIF file. `major`, `minor` and `brands` are those of the original file type.
+   Refusals 5 to 9, 12 to 15 and 16. */
+uint64_t bustardcase_expand(const uint8_t *payload, size_t payload_len, uint32_t major, uint32_t minor,
+                            const uint8_t *brands, size_t brands_len, uint8_t *out, size_t out_len);
+
 #ifdef __cplusplus
 }
 #endif

@@ -13,6 +13,9 @@ const STRUCTURED: u64 = 300_000;
 /// How many random tails after 24 bits.
 const TAILS: u32 = 1 << 20;
 
+/// Every how many values of the first 24 bits one is taken.
+const EVERY: usize = 4;
+
 struct Run {
     checker: Checker,
     cases: u64,
@@ -29,6 +32,9 @@ pub fn compare() -> Result<(), String> {
         refused: 0,
     };
     payloads::shortest(&mut |c| run.case(c))?;
+    for value in (0..1 << 24).step_by(EVERY) {
+        payloads::first_bits(value, &mut |c| run.case(c))?;
+    }
     payloads::random_tails(TAILS, &mut |c| run.case(c))?;
     if !payloads::limits(&mut |c| run.case(c))? {
         return Err("there is no room for a payload of 2^28 bytes".to_string());
