@@ -18,6 +18,7 @@ use Rattle.mini.specs.Views.{hasCodecTypes}
 use Rattle.mini.specs.WellPlaced.{read-placed}
 use Rattle.mini.specs.Write.{writable}
 use Rattle.mini.specs.declared.MinimizedImage.{MinimizedImage}
+use Rattle.slots.specs.Bounds.{cond-most}
 use Rattle.writer.specs.ToBox.{refused}
 use Rattle.writer.specs.declared.Written.{Written}
 use Rattle.expander.specs.EquivalentFile.{itemBytes, file}
@@ -41,10 +42,6 @@ read-expands p brands z a t u n =
     rw (is-on (wellPlaced i p) (read-placed p z), is-on (writable i) (read-writable p z), n, u, t, a)
 
 -- ---- what comes back
-cond-most : (t : Bool) (n later m : ℕ) → n ≤ m → later ≤ m → cond t n later ≤ m
-cond-most true n later m h k = h
-cond-most false n later m h k = k
-
 pub refusal-most : (i : MinimizedImage) (s brands : List ℕ) → refusalOf i s brands ≤ 15
 unfolding refusalOf
 refusal-most i s brands =

@@ -11,7 +11,6 @@ ghost use Rattle.slots.specs.Sound.{Bounded, Sound};
 ghost use Rattle.expander.specs.EquivalentFile.{itemType, itemSet, dataLengths, itemBoxes, itemBoxesLen, metaBody, metaBodyLen, meta, mdat};
 ghost use Rattle.expander.specs.Placed.{DataPlaced, Fit};
 use crate::item_data::put_item_data;
-use bits::both;
 use boxes::FourCc;
 use boxes::put_box_header;
 use boxes::put_full_box_header;
@@ -31,6 +30,8 @@ use items::references::iref_len;
 use items::references::put_iref;
 use mini::ExplicitCodecTypes;
 use mini::MinimizedImage;
+use slots::groups::has_alpha_item;
+use slots::groups::has_gain_map_item;
 use slots::iprp::put_iprp;
 use slots::lengths::iprp_len;
 
@@ -53,19 +54,17 @@ fn item_type(types: ExplicitCodecTypes) -> FourCc
 fn item_set(image: MinimizedImage) -> ItemSet
     ensures { λ r. ⌜ r ≡ itemSet image ⌝ }
 {
-    let g = image.gain_map;
-    let coded = g.data;
-    let alpha_data = image.alpha_data;
     let types = image.explicit_codec_types;
     let item_type = item_type(types);
+    let alpha = has_alpha_item(image);
+    let gain_map = has_gain_map_item(image);
     let exif_chunk = image.exif;
     let exif = exif_chunk.is_present();
     let xmp_chunk = image.xmp;
     let xmp = xmp_chunk.is_present();
-    let gain_map = both(image.has_gain_map, 0 < coded.len);
     ItemSet {
         item_type,
-        alpha: 0 < alpha_data.len,
+        alpha,
         premultiplied: image.alpha_premultiplied,
         tone_map: image.has_gain_map,
         gain_map,

@@ -40,6 +40,9 @@ pub fn compare() -> Result<(), String> {
             run.compare_one(&payload, &original)?;
         }
     }
+    // The most main data that a payload can have.
+    let original = run.types[0].clone();
+    run.compare_one(&payloads::payload_of(&payloads::heavy(1 << 28)), &original)?;
     payloads::shortest(&mut |c| run.case(c))?;
     payloads::structured(STRUCTURED, &mut |c| run.case(c))?;
     for _ in 0..TYPED {

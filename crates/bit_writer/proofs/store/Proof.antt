@@ -8,19 +8,15 @@ use Rattle.bit_writer.proofs.store.Tie as tie
 use Rattle.bit_writer.proofs.store.Reads as reads
 use Rattle.bit_writer.proofs.store.Lts as lts
 
--- src/writer.rt:26:9
 slice-write-out : tie.Need-slice-write-out
 slice-write-out c = search needs
 
--- src/writer.rt:22:1
 same-length : tie.Need-same-length
 same-length c = search needs
 
--- src/writer.rt:22:1
 returns : tie.Need-returns
 returns c = search needs
 
--- src/writer.rt:22:1
 returns-2 : tie.Need-returns-2
 returns-2 c = sym (set-out _ _ _ (omega arith))
 

@@ -15,11 +15,6 @@ use borrow.Author.Needs.{needs}
 use Rattle.expander.proofs.entry.equivalent_file.Statement.{statement}
 use Rattle.expander.proofs.entry.equivalent_file.Tie as tie
 
--- src/entry.rt:75:9
-refusal-of-requires : tie.Need-refusal-of-requires
-refusal-of-requires c κs = search needs
-
--- src/entry.rt:77:9
 returns : tie.Need-returns
 returns c = let s = now (c .before .before .before .before .before .args .source) in
     let b = now (c .before .before .before .before .before .args .brands) in
@@ -28,11 +23,6 @@ returns c = let s = now (c .before .before .before .before .before .args .source
     promised (c .before .before .before .before .before .args .image) s (c .before .before .before .before .before .args .major) (c .before .before .before .before .before .args .minor) b o
     (ap (λ (k : ℕ). refused k 0 o) e ∙ expand-refused (c .before .before .before .before .before .args .image) s (c .before .before .before .before .before .args .major) (c .before .before .before .before .before .args .minor) b o (λ z. c .if1 .taken (e ∙ z)))
 
--- src/entry.rt:79:9
-equivalent-file-type-requires : tie.Need-equivalent-file-type-requires
-equivalent-file-type-requires c κs = search needs
-
--- src/entry.rt:80:9
 data-lengths-requires : tie.Need-data-lengths-requires
 data-lengths-requires c κs = let s = now (c .before .before .before .before .before .before .args .source) in
     let b = now (c .before .before .before .before .before .before .args .brands) in
@@ -41,7 +31,6 @@ data-lengths-requires c κs = let s = now (c .before .before .before .before .be
     let a = fit (c .before .before .before .before .before .before .args .image) s (x .placed) (x .can-write) in
     a .bounded
 
--- src/entry.rt:81:9
 content-start-requires : tie.Need-content-start-requires
 content-start-requires c κs = let s = now (c .before .before .before .before .before .before .before .args .source) in
     let b = now (c .before .before .before .before .before .before .before .args .brands) in
@@ -50,7 +39,6 @@ content-start-requires c κs = let s = now (c .before .before .before .before .b
     let a = fit (c .before .before .before .before .before .before .before .args .image) s (x .placed) (x .can-write) in
     ((a .properties .bounded, x .brands-allowed), c .data-lengths .ensures)
 
--- src/entry.rt:82:25
 data-len-requires : tie.Need-data-len-requires
 data-len-requires c κs = let s = now (c .before .before .before .before .before .before .before .before .args .source) in
     let b = now (c .before .before .before .before .before .before .before .before .args .brands) in
@@ -60,7 +48,6 @@ data-len-requires c κs = let s = now (c .before .before .before .before .before
     let g = ap dataLen (c .before .data-lengths .ensures) in
     omega (arith, g, content-most (c .before .before .before .before .before .before .before .before .args .image) (a .bounded))
 
--- src/entry.rt:82:18
 add-needed : tie.Need-add-needed
 add-needed c = let s = now (c .before .before .before .before .before .before .before .before .before .args .source) in
     let b = now (c .before .before .before .before .before .before .before .before .before .args .brands) in
@@ -72,7 +59,6 @@ add-needed c = let s = now (c .before .before .before .before .before .before .b
     let m = content-most (c .before .before .before .before .before .before .before .before .before .args .image) (a .bounded) in
     omega (arith, g, m, c .before .content-start .ensures .1, c .data-len .ensures)
 
--- src/entry.rt:84:9
 returns-2 : tie.Need-returns-2
 returns-2 c = let s = now (c .before .before .before .before .before .before .before .before .before .before .args .source) in
     let b = now (c .before .before .before .before .before .before .before .before .before .before .args .brands) in
@@ -87,7 +73,6 @@ returns-2 c = let s = now (c .before .before .before .before .before .before .be
     promised (c .before .before .before .before .before .before .before .before .before .before .args .image) s (c .before .before .before .before .before .before .before .before .before .before .args .major) (c .before .before .before .before .before .before .before .before .before .before .args .minor) b (now (c .before .before .before .before .before .before .before .before .before .before .args .out))
     (expand-short (c .before .before .before .before .before .before .before .before .before .before .args .image) s (c .before .before .before .before .before .before .before .before .before .before .args .major) (c .before .before .before .before .before .before .before .before .before .before .args .minor) b (now (c .before .before .before .before .before .before .before .before .before .before .args .out)) e k (omega arith))
 
--- src/entry.rt:89:5
 put-file-requires : tie.Need-put-file-requires
 put-file-requires c κs = let s = now (c .before .before .before .before .before .before .before .before .before .before .before .args .source) in
     let b = now (c .before .before .before .before .before .before .before .before .before .before .before .args .brands) in
@@ -101,11 +86,6 @@ put-file-requires c κs = let s = now (c .before .before .before .before .before
       (x .brands-allowed, (omega (arith, m, c .before .before .before .content-start .ensures .1), c .before .before .before .before .data-lengths .ensures)),
     )
 
--- src/entry.rt:64:1
-same-length : tie.Need-same-length
-same-length c = search needs
-
--- src/entry.rt:64:1
 returns-3 : tie.Need-returns-3
 returns-3 c = let s = now (c .before .before .before .before .before .before .before .before .before .before .before .before .before .before .args .source) in
     let b = now (c .before .before .before .before .before .before .before .before .before .before .before .before .before .before .args .brands) in
@@ -125,14 +105,14 @@ pub equivalent-file-spec : {M : Type 1} → statement M
 equivalent-file-spec =
     tie.close
     (tie.spec
-    refusal-of-requires
+    (λ c κs. search needs)
     returns
-    equivalent-file-type-requires
+    (λ c κs. search needs)
     data-lengths-requires
     content-start-requires
     data-len-requires
     add-needed
     returns-2
     put-file-requires
-    same-length
+    (λ c. search needs)
     returns-3)

@@ -14,22 +14,12 @@ use borrow.Author.Needs.{needs}
 use Rattle.expander.proofs.entry.equivalent_file_len.Statement.{statement}
 use Rattle.expander.proofs.entry.equivalent_file_len.Tie as tie
 
--- src/entry.rt:49:9
-refusal-of-requires : tie.Need-refusal-of-requires
-refusal-of-requires c κs = search needs
-
--- src/entry.rt:51:9
 returns : tie.Need-returns
 returns c = let s = now (c .before .before .before .before .args .source) in
     let b = now (c .before .before .before .before .args .brands) in
     let e = c .before .refusal-of .ensures .0 in
     ap (λ (k : ℕ). record { refusal = k; len = 0 }) e ∙ length-refused (c .before .before .before .before .args .image) s (c .before .before .before .before .args .major) (c .before .before .before .before .args .minor) b (λ z. c .if1 .taken (e ∙ z))
 
--- src/entry.rt:53:9
-equivalent-file-type-requires : tie.Need-equivalent-file-type-requires
-equivalent-file-type-requires c κs = search needs
-
--- src/entry.rt:54:9
 data-lengths-requires : tie.Need-data-lengths-requires
 data-lengths-requires c κs = let s = now (c .before .before .before .before .before .args .source) in
     let b = now (c .before .before .before .before .before .args .brands) in
@@ -38,7 +28,6 @@ data-lengths-requires c κs = let s = now (c .before .before .before .before .be
     let a = fit (c .before .before .before .before .before .args .image) s (x .placed) (x .can-write) in
     a .bounded
 
--- src/entry.rt:55:9
 content-start-requires : tie.Need-content-start-requires
 content-start-requires c κs = let s = now (c .before .before .before .before .before .before .args .source) in
     let b = now (c .before .before .before .before .before .before .args .brands) in
@@ -47,7 +36,6 @@ content-start-requires c κs = let s = now (c .before .before .before .before .b
     let a = fit (c .before .before .before .before .before .before .args .image) s (x .placed) (x .can-write) in
     ((a .properties .bounded, x .brands-allowed), c .data-lengths .ensures)
 
--- src/entry.rt:58:21
 data-len-requires : tie.Need-data-len-requires
 data-len-requires c κs = let s = now (c .before .before .before .before .before .before .before .args .source) in
     let b = now (c .before .before .before .before .before .before .before .args .brands) in
@@ -57,7 +45,6 @@ data-len-requires c κs = let s = now (c .before .before .before .before .before
     let g = ap dataLen (c .before .data-lengths .ensures) in
     omega (arith, g, content-most (c .before .before .before .before .before .before .before .args .image) (a .bounded))
 
--- src/entry.rt:58:14
 add-t12 : tie.Need-add-t12
 add-t12 c = let s = now (c .before .before .before .before .before .before .before .before .args .source) in
     let b = now (c .before .before .before .before .before .before .before .before .args .brands) in
@@ -69,7 +56,6 @@ add-t12 c = let s = now (c .before .before .before .before .before .before .befo
     let m = content-most (c .before .before .before .before .before .before .before .before .args .image) (a .bounded) in
     omega (arith, g, m, c .before .content-start .ensures .1, c .data-len .ensures)
 
--- src/entry.rt:40:1
 returns-2 : tie.Need-returns-2
 returns-2 c = let s = now (c .before .before .before .before .before .before .before .before .args .source) in
     let b = now (c .before .before .before .before .before .before .before .before .args .brands) in
@@ -87,9 +73,9 @@ pub equivalent-file-len-spec : {M : Type 1} → statement M
 equivalent-file-len-spec =
     tie.close
     (tie.spec
-    refusal-of-requires
+    (λ c κs. search needs)
     returns
-    equivalent-file-type-requires
+    (λ c κs. search needs)
     data-lengths-requires
     content-start-requires
     data-len-requires

@@ -5,31 +5,18 @@ use borrow.Author.Needs.{needs}
 use Rattle.expander.proofs.file.put_meta_body.Statement.{statement}
 use Rattle.expander.proofs.file.put_meta_body.Tie as tie
 
--- src/file.rt:101:9
-put-full-box-header-requires : tie.Need-put-full-box-header-requires
-put-full-box-header-requires c κs = search needs
-
--- src/file.rt:102:9
 put-item-boxes-requires : tie.Need-put-item-boxes-requires
 put-item-boxes-requires c κs = rw (c .before .before .before .before .before .before .before .pre .1 .0) (omega (arith, c .before .before .before .before .before .before .before .pre .0 .0))
 
--- src/file.rt:103:9
 put-iprp-requires : tie.Need-put-iprp-requires
 put-iprp-requires c κs = let w = rw (c .before .before .before .before .before .before .before .before .before .before .before .pre .1 .0) at (c .before .before .before .put-item-boxes .ensures) in (omega (arith, c .before .before .before .before .before .before .before .before .before .before .before .pre .0 .0, w .next), c .before .before .before .before .before .before .before .before .before .before .before .pre .0 .1 .0)
 
--- src/file.rt:104:9
 put-grpl-requires : tie.Need-put-grpl-requires
 put-grpl-requires c κs = let w = rw (c .before .before .before .before .before .before .before .before .before .before .before .before .before .before .before .pre .1 .0) at (c .before .before .before .before .before .before .before .put-item-boxes .ensures) in rw (c .before .before .before .before .before .before .before .before .before .before .before .before .before .before .before .pre .1 .0) (omega (arith, c .before .before .before .before .before .before .before .before .before .before .before .before .before .before .before .pre .0 .0, w .next))
 
--- src/file.rt:105:5
 put-iloc-requires : tie.Need-put-iloc-requires
 put-iloc-requires c κs = let w = rw (c .before .before .before .before .before .before .before .before .before .before .before .before .before .before .before .before .before .before .before .pre .1 .0) at (c .before .before .before .before .before .before .before .before .before .before .before .put-item-boxes .ensures) in let g = rw (c .before .before .before .before .before .before .before .before .before .before .before .before .before .before .before .before .before .before .before .pre .1 .0) at (c .before .before .before .put-grpl .ensures) in rw (c .before .before .before .before .before .before .before .before .before .before .before .before .before .before .before .before .before .before .before .pre .1 .1) (omega (arith, c .before .before .before .before .before .before .before .before .before .before .before .before .before .before .before .before .before .before .before .pre .0 .0, w .next, g .next), c .before .before .before .before .before .before .before .before .before .before .before .before .before .before .before .before .before .before .before .pre .0 .1 .1)
 
--- src/file.rt:89:1
-same-length : tie.Need-same-length
-same-length c = search needs
-
--- src/file.rt:89:1
 returns : tie.Need-returns
 unfolding metaBody
 returns c = then
@@ -41,10 +28,10 @@ pub put-meta-body-spec : {M : Type 1} → statement M
 put-meta-body-spec =
     tie.close
     (tie.spec
-    put-full-box-header-requires
+    (λ c κs. search needs)
     put-item-boxes-requires
     put-iprp-requires
     put-grpl-requires
     put-iloc-requires
-    same-length
+    (λ c. search needs)
     returns)

@@ -6,41 +6,30 @@ use borrow.Author.Needs.{needs}
 use Rattle.expander.proofs.item_data.put_item_data.Statement.{statement}
 use Rattle.expander.proofs.item_data.put_item_data.Tie as tie
 
--- src/item_data.rt:76:9
 put-span-requires : tie.Need-put-span-requires
 unfolding dataLengths
 put-span-requires c κs = (omega (arith, c .before .before .before .before .before .pre .0), c .before .before .before .before .before .pre .1 .alpha)
 
--- src/item_data.rt:78:9
 put-tone-map-if-requires : tie.Need-put-tone-map-if-requires
 unfolding dataLengths
 put-tone-map-if-requires c κs = (omega (arith, c .before .before .before .before .before .before .before .before .before .before .pre .0), c .before .before .before .before .before .before .before .before .before .before .pre .1 .metadata)
 
--- src/item_data.rt:80:9
 put-span-if-requires : tie.Need-put-span-if-requires
 unfolding dataLengths
 put-span-if-requires c κs = (omega (arith, c .before .before .before .before .before .before .before .before .before .before .before .before .before .before .before .pre .0), c .before .before .before .before .before .before .before .before .before .before .before .before .before .before .before .pre .1 .gain-map)
 
--- src/item_data.rt:82:9
 put-span-requires-2 : tie.Need-put-span-requires-2
 unfolding dataLengths
 put-span-requires-2 c κs = (omega (arith, c .before .before .before .before .before .before .before .before .before .before .before .before .before .before .before .before .before .before .before .before .pre .0), c .before .before .before .before .before .before .before .before .before .before .before .before .before .before .before .before .before .before .before .before .pre .1 .main)
 
--- src/item_data.rt:84:9
 put-chunk-requires : tie.Need-put-chunk-requires
 unfolding dataLengths
 put-chunk-requires c κs = (omega (arith, c .before .before .before .before .before .before .before .before .before .before .before .before .before .before .before .before .before .before .before .before .before .before .before .before .pre .0), c .before .before .before .before .before .before .before .before .before .before .before .before .before .before .before .before .before .before .before .before .before .before .before .before .pre .1 .exif)
 
--- src/item_data.rt:86:5
 put-chunk-requires-2 : tie.Need-put-chunk-requires-2
 unfolding dataLengths
 put-chunk-requires-2 c κs = (omega (arith, c .before .before .before .before .before .before .before .before .before .before .before .before .before .before .before .before .before .before .before .before .before .before .before .before .before .before .before .before .pre .0), c .before .before .before .before .before .before .before .before .before .before .before .before .before .before .before .before .before .before .before .before .before .before .before .before .before .before .before .before .pre .1 .xmp)
 
--- src/item_data.rt:69:1
-same-length : tie.Need-same-length
-same-length c = search needs
-
--- src/item_data.rt:69:1
 returns : tie.Need-returns
 unfolding itemData itemBytes dataLengths
 returns c = then (then (then (then (then (c .before .before .before .before .before .before .before .before .before .before .before .before .before .before .before .before .before .before .before .before .before .before .before .before .before .put-span .ensures) (c .before .before .before .before .before .before .before .before .before .before .before .before .before .before .before .before .before .before .before .before .put-tone-map-if .ensures)) (c .before .before .before .before .before .before .before .before .before .before .before .before .before .before .before .put-span-if .ensures)) (c .before .before .before .before .before .before .before .before .before .before .put-span2 .ensures)) (c .before .before .before .before .before .before .put-chunk .ensures)) (c .before .before .put-chunk2 .ensures)
@@ -55,5 +44,5 @@ put-item-data-spec =
     put-span-requires-2
     put-chunk-requires
     put-chunk-requires-2
-    same-length
+    (λ c. search needs)
     returns)

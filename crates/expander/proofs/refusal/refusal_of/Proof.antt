@@ -6,35 +6,6 @@ use borrow.Author.Needs.{needs}
 use Rattle.expander.proofs.refusal.refusal_of.Statement.{statement}
 use Rattle.expander.proofs.refusal.refusal_of.Tie as tie
 
--- src/refusal.rt:58:9
-well-placed-requires : tie.Need-well-placed-requires
-well-placed-requires c κs = search needs
-
--- src/refusal.rt:59:9
-is-writable-requires : tie.Need-is-writable-requires
-is-writable-requires c κs = search needs
-
--- src/refusal.rt:61:9
-both-requires : tie.Need-both-requires
-both-requires c κs = search needs
-
--- src/refusal.rt:63:9
-is-uuid-requires : tie.Need-is-uuid-requires
-is-uuid-requires c κs = search needs
-
--- src/refusal.rt:64:9
-has-codec-types-requires : tie.Need-has-codec-types-requires
-has-codec-types-requires c κs = search needs
-
--- src/refusal.rt:65:9
-allowed-requires : tie.Need-allowed-requires
-allowed-requires c κs = search needs
-
--- src/refusal.rt:66:5
-first-requires : tie.Need-first-requires
-first-requires c κs = search needs
-
--- src/refusal.rt:54:1
 returns : tie.Need-returns
 unfolding refusalOf
 returns c = (
@@ -55,11 +26,11 @@ pub refusal-of-spec : {M : Type 1} → statement M
 refusal-of-spec =
     tie.close
     (tie.spec
-    well-placed-requires
-    is-writable-requires
-    both-requires
-    is-uuid-requires
-    has-codec-types-requires
-    allowed-requires
-    first-requires
+    (λ c κs. search needs)
+    (λ c κs. search needs)
+    (λ c κs. search needs)
+    (λ c κs. search needs)
+    (λ c κs. search needs)
+    (λ c κs. search needs)
+    (λ c κs. search needs)
     returns)
