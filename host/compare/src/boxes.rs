@@ -1,6 +1,7 @@
 //! Box headers: `bustardcase_box_header` beside `parse_box_header`.
 
 use crate::check::Checker;
+use bustardcase::raw;
 use oracle::answer::Answer;
 use oracle::box_cases;
 use oracle::boxes::{HEADER_LEN, box_header};
@@ -64,7 +65,7 @@ impl Run {
         self.outcomes.count(&answer);
         for out_len in OUTPUTS {
             self.checker
-                .call(&answer, out_len, |out| ffi::box_header(buf, start, out))
+                .call(&answer, out_len, |out| raw::box_header(buf, start, out))
                 .map_err(|e| with_input(buf, start, e))?;
         }
         Ok(())

@@ -2,6 +2,7 @@
 
 use crate::check::Checker;
 use crate::read::shown;
+use bustardcase::raw;
 use oracle::answer::Answer;
 use oracle::expanding::{self, OriginalType};
 use oracle::payloads::{self, Case};
@@ -105,7 +106,7 @@ impl Run {
         self.cases += 1;
         for out_len in [exact, other] {
             self.checker.call(&answer, out_len, |out| {
-                ffi::expand(
+                raw::expand(
                     payload,
                     original.major,
                     original.minor,

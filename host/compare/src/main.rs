@@ -3,13 +3,9 @@
 
 mod boxes;
 mod check;
-#[cfg(feature = "expand")]
 mod expand;
-#[cfg(feature = "read")]
 mod features;
-#[cfg(feature = "read")]
 mod read;
-#[cfg(feature = "rewrite")]
 mod rewrite;
 
 use std::process::ExitCode;
@@ -20,11 +16,8 @@ type Part = (&'static str, fn() -> Result<(), String>);
 /// The parts that this build has, in order.
 const PARTS: &[Part] = &[
     ("boxes", boxes::compare),
-    #[cfg(feature = "read")]
     ("read", read::compare),
-    #[cfg(feature = "rewrite")]
     ("rewrite", rewrite::compare),
-    #[cfg(feature = "expand")]
     ("expand", expand::compare),
 ];
 

@@ -2,6 +2,7 @@
 
 use crate::check::Checker;
 use crate::features::Features;
+use bustardcase::raw;
 use oracle::fields;
 use oracle::hex::hex;
 use oracle::payloads::{self, Case};
@@ -85,7 +86,7 @@ impl Run {
         self.cases += 1;
         for out_len in [RECORD_LEN, other] {
             self.checker
-                .call(&answer, out_len, |out| ffi::read(payload, out))?;
+                .call(&answer, out_len, |out| raw::read(payload, out))?;
         }
         Ok(())
     }

@@ -2,6 +2,7 @@
 
 use crate::check::Checker;
 use crate::read::shown;
+use bustardcase::raw;
 use oracle::answer::Answer;
 use oracle::payloads::{self, Case};
 use oracle::reading::{self, Reading};
@@ -76,7 +77,7 @@ impl Run {
         self.cases += 1;
         for out_len in [exact, other] {
             self.checker
-                .call(&answer, out_len, |out| ffi::rewrite(payload, out))?;
+                .call(&answer, out_len, |out| raw::rewrite(payload, out))?;
         }
         Ok(())
     }

@@ -1,6 +1,7 @@
 //! Times the exported functions beside the supplied Rust on the same payloads, in one run, by turns:
 //! `bench NAME..`, where a NAME is `read`, `rewrite` or `expand`. Each time is the best of many batches, per call.
 
+use bustardcase::raw;
 use oracle::payloads::{heavy, payload_of};
 use oracle::plan::Plan;
 use oracle::reading::RECORD_LEN;
@@ -60,13 +61,13 @@ fn bench_read() {
     for (name, payload) in payloads() {
         let mut out = [0; RECORD_LEN];
         let accepted = MinimizedImage::parse(&payload).is_ok();
-        assert!(accepted && ffi::read(&payload, &mut out) == RECORD_LEN as u64);
+        assert!(accepted && raw::read(&payload, &mut out) == RECORD_LEN as u64);
         let [rust, our] = best([
             &mut || {
                 let _ = black_box(MinimizedImage::parse(black_box(&payload)));
             },
             &mut || {
-                black_box(ffi::read(black_box(&payload), black_box(&mut out)));
+                black_box(raw::read(black_box(&payload), black_box(&mut out)));
             },
         ]);
         let len = payload.len();
@@ -89,7 +90,7 @@ fn bench_rewrite() {
         let boxed = MinimizedImage::parse(&payload).and_then(|i| i.to_box());
         let len = boxed.map(|b| b.len()).unwrap_or(0);
         let mut out = vec![0; len];
-        assert!(len > 8 && ffi::rewrite(&payload, &mut out) == len as u64);
+        assert!(len > 8 && raw::rewrite(&payload, &mut out) == len as u64);
         let mut copy = vec![0; payload.len()];
         let [rust, our, copied] = best([
             &mut || {
@@ -97,7 +98,7 @@ fn bench_rewrite() {
                 let _ = black_box(image.and_then(|i| i.to_box()));
             },
             &mut || {
-                black_box(ffi::rewrite(black_box(&payload), black_box(&mut out)));
+                black_box(raw::rewrite(black_box(&payload), black_box(&mut out)));
             },
             &mut || black_box(&mut copy[..]).copy_from_slice(black_box(&payload)),
         ]);
@@ -126,7 +127,7 @@ fn bench_expand() {
         let file = file.unwrap_or_default();
         let mut out = vec![0; file.len()];
         assert!(
-            ffi::expand(&payload, major, 0, &brands, &mut out) == file.len() as u64 && out == file
+            raw::expand(&payload, major, 0, &brands, &mut out) == file.len() as u64 && out == file
         );
         let mut copy = vec![0; payload.len()];
         let [rust, our, copied] = best([
@@ -135,7 +136,7 @@ fn bench_expand() {
                 let _ = black_box(image.and_then(|i| i.equivalent_file(&original)));
             },
             &mut || {
-                black_box(ffi::expand(
+                black_box(raw::expand(
                     black_box(&payload),
                     major,
                     0,

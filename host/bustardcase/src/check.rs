@@ -1,0 +1,46 @@
+//! The desk check.
+
+use crate::answer::fixed;
+use crate::layout::Fields;
+use crate::{Refusal, raw};
+
+/// The desk check of a payload's record: whether a display takes the picture as it is, and the five
+/// conditions for it.
+#[derive(Clone, Copy, Debug, PartialEq, Eq)]
+pub struct Check {
+    /// The display takes the picture as it is: all five conditions hold.
+    pub passes: bool,
+    /// The samples are integers.
+    pub integer_samples: bool,
+    /// There is no gain map.
+    pub no_gain_map: bool,
+    /// Exif is present.
+    pub exif_present: bool,
+    /// The width is at most 1,920.
+    pub width_fits: bool,
+    /// The height is at most 1,080.
+    pub height_fits: bool,
+}
+
+/// The desk check of a payload. Refusals 5 to 9.
+///
+/// ```
+/// let check = bustardcase::check(&[0, 0, 0, 0, 0, 0, 0, 0xAA])?;
+/// assert!(check.integer_samples && check.no_gain_map && check.width_fits && check.height_fits);
+/// assert!(!check.exif_present && !check.passes);
+/// # Ok::<(), bustardcase::Refusal>(())
+/// ```
+pub fn check(payload: &[u8]) -> Result<Check, Refusal> {
+    let layout: [u8; 6] = fixed(|out| raw::check(payload, out))?;
+    let mut fields = Fields::new(&layout);
+    let check = Check {
+        passes: fields.flag(),
+        integer_samples: fields.flag(),
+        no_gain_map: fields.flag(),
+        exif_present: fields.flag(),
+        width_fits: fields.flag(),
+        height_fits: fields.flag(),
+    };
+    fields.finish();
+    Ok(check)
+}
