@@ -19,9 +19,9 @@ usage: bustardcase COMMAND ..
 FILE and IN are a file with an 'ftyp' and a 'mini' box, or the bare payload of a
 'mini' box; '-' is the standard input. OUT '-' is the standard output.
 
-A picture that cannot be read or written gets one line on the standard error: the
-number of the refusal and its meaning. docs/ABI.md lists them. OUT is then as it
-was before.
+A picture that cannot be read or written gets one line on the standard error:
+the number of the refusal and its meaning. docs/ABI.md lists them. OUT is then
+as it was before.
 
 exit status:  0  done; check says yes
               1  the picture is refused; check says no
@@ -103,16 +103,16 @@ exit status:  0 written, 1 refused, 2 wrong usage or a file that cannot be read
 pub const EXPAND: &str = "\
 usage: bustardcase expand IN OUT [--major M] [--minor N] [--brands A,B]
 
-Writes the equivalent HEIF file: 'ftyp', 'meta' and 'mdat'. The picture must have
-explicit codec types.
+Writes the equivalent HEIF file: 'ftyp', 'meta' and 'mdat'. The picture must
+have explicit codec types.
 
 IN     a file with an 'ftyp' and a 'mini' box, or a bare payload; '-' is the
        standard input
 OUT    the HEIF file. OUT may be IN; '-' is the standard output
 
 The new file's type follows from the original one, which for a file is its own.
-For a bare payload it is major brand mif3, minor version 0 and the one compatible
-brand mif3. Each option takes the place of one part of it:
+For a bare payload it has major brand mif3, minor version 0 and one compatible
+brand, mif3. Each option takes the place of one part of it:
 
 --major M      the major brand, four characters
 --minor N      the minor version, a number; 0x begins hexadecimal digits

@@ -1,0 +1,13 @@
+//! The tool from end to end, on files that the tests make.
+
+mod check;
+mod errors;
+mod explain;
+mod folder;
+mod help;
+mod json;
+mod payloads;
+mod pipes;
+mod script;
+mod show;
+mod writing;
