@@ -3,22 +3,32 @@
 
 mod boxes;
 mod check;
+mod desk_check;
 mod expand;
 mod features;
+mod file_type;
+mod find_box;
+mod outline;
 mod read;
 mod rewrite;
+mod typed;
 
 use std::process::ExitCode;
 use std::time::Instant;
 
 type Part = (&'static str, fn() -> Result<(), String>);
 
-/// The parts that this build has, in order.
+/// The parts, in order.
 const PARTS: &[Part] = &[
     ("boxes", boxes::compare),
+    ("find_box", find_box::compare),
+    ("file_type", file_type::compare),
     ("read", read::compare),
     ("rewrite", rewrite::compare),
     ("expand", expand::compare),
+    ("check", desk_check::compare),
+    ("outline", outline::compare),
+    ("typed", typed::compare),
 ];
 
 fn main() -> ExitCode {

@@ -29,6 +29,15 @@ impl BitString {
         }
     }
 
+    /// How many bits there are.
+    pub fn len(&self) -> usize {
+        self.bytes.len() * 8 - self.left() as usize
+    }
+
+    pub fn is_empty(&self) -> bool {
+        self.bytes.is_empty()
+    }
+
     /// How many bits are left in the last byte.
     pub fn left(&self) -> u32 {
         (8 - self.used) % 8

@@ -15,7 +15,7 @@ pub fn box_header(buf: &[u8], start: usize) -> Result<Answer, String> {
     }
 }
 
-fn layout(header: &BoxHeader) -> Vec<u8> {
+pub fn layout(header: &BoxHeader) -> Vec<u8> {
     let mut out = Vec::with_capacity(HEADER_LEN);
     out.extend(header.box_type);
     out.push(header.user_type.is_some() as u8);

@@ -12,6 +12,47 @@ pub fn of_box_header(byte: usize) -> String {
     fields.at(byte)
 }
 
+/// The fields of a file type's layout.
+pub fn of_file_type(byte: usize) -> String {
+    let mut fields = Fields::default();
+    fields.add("major_brand", 4);
+    fields.add("minor_version", 4);
+    fields.span("compatible_brands");
+    fields.at(byte)
+}
+
+/// The fields of the desk check's layout.
+pub fn of_check(byte: usize) -> String {
+    let mut fields = Fields::default();
+    for name in [
+        "answer",
+        "integers",
+        "no gain map",
+        "Exif",
+        "width",
+        "height",
+    ] {
+        fields.add(name, 1);
+    }
+    fields.at(byte)
+}
+
+/// The fields of an outline's layout.
+pub fn of_outline(byte: usize) -> String {
+    let mut fields = Fields::default();
+    for part in 0..12 {
+        fields.add(&format!("end of part {part} of the header"), 8);
+    }
+    for order in ["by size", "as stored"] {
+        for place in 1..=11 {
+            fields.add(&format!("number of chunk {place} {order}"), 1);
+            fields.chunk(&format!("chunk {place} {order}"));
+        }
+    }
+    fields.add("bytes ignored", 8);
+    fields.at(byte)
+}
+
 /// The fields of a record's layout.
 pub fn of_record(byte: usize) -> String {
     let mut fields = Fields::default();

@@ -112,9 +112,14 @@ pub struct Plan {
     pub padding: u32,
 }
 
+/// How many parts a header has.
+pub const PARTS: usize = 12;
+
 /// A header's bytes and the length of all chunks after it.
 pub struct Header {
     pub bytes: Vec<u8>,
+    /// Where each part ends, in bits.
+    pub ends: [usize; PARTS],
     pub chunks: usize,
     /// Whether the padding holds a one.
     pub dirty: bool,
@@ -172,20 +177,58 @@ impl Plan {
 
     pub fn header(&self) -> Header {
         let mut b = BitString::default();
-        self.put_flags(&mut b);
-        let large = self.wide.dimensions || self.needs_large_dimensions();
-        self.put_picture(&mut b, large);
-        if let Some(hdr) = &self.hdr {
-            put_hdr(&mut b, hdr, large);
+        let mut ends = [0; PARTS];
+        for (part, end) in ends.iter_mut().enumerate() {
+            self.put_part(&mut b, part);
+            *end = b.len();
         }
-        self.put_sizes(&mut b);
-        let left = b.left();
-        let padding = self.padding & ((1 << left) - 1);
-        b.put(left, padding);
+        let padding = ends[PARTS - 1] - ends[PARTS - 2];
         Header {
             bytes: b.bytes,
+            ends,
             chunks: self.chunk_lengths(),
-            dirty: padding != 0,
+            dirty: self.padding & ((1 << padding) - 1) != 0,
+        }
+    }
+
+    fn put_part(&self, b: &mut BitString, part: usize) {
+        let large = self.wide.dimensions || self.needs_large_dimensions();
+        match part {
+            0 => self.put_flags(b),
+            1 => {
+                b.flag(large);
+                b.put(DIMENSION.bits(large), self.width);
+                b.put(DIMENSION.bits(large), self.height);
+            }
+            2 => put_chroma(b, self.chroma),
+            3 => put_depth(b, self.depth),
+            4 => {
+                if let Some(alpha) = &self.alpha {
+                    b.flag(alpha.premultiplied);
+                }
+            }
+            5 => b.bytes(self.cicp.as_ref().map_or(&[], |c| &c[..])),
+            6 => self.types.iter().flatten().for_each(|kind| b.bytes(kind)),
+            7 => {
+                if let Some(hdr) = &self.hdr {
+                    b.flag(hdr.gain_map.is_some());
+                }
+                if let Some(gain_map) = self.gain_map() {
+                    put_gain_map(b, gain_map, large);
+                }
+            }
+            8 => {
+                if let Some(hdr) = &self.hdr {
+                    put_bodies(b, &hdr.bodies);
+                }
+            }
+            9 => {
+                if let Some(gain_map) = self.gain_map() {
+                    put_bodies(b, &gain_map.tmap_bodies);
+                }
+            }
+            10 => self.put_sizes(b),
+            _ => b.put(b.left(), self.padding),
         }
     }
 
@@ -200,23 +243,8 @@ impl Plan {
         b.flag(self.icc.is_some());
         b.flag(self.exif.is_some());
         b.flag(self.xmp.is_some());
-    }
-
-    fn put_picture(&self, b: &mut BitString, large: bool) {
         b.put(2, self.chroma.subsampling);
         b.put(3, self.orientation);
-        b.flag(large);
-        b.put(DIMENSION.bits(large), self.width);
-        b.put(DIMENSION.bits(large), self.height);
-        put_chroma(b, self.chroma);
-        put_depth(b, self.depth);
-        if let Some(alpha) = &self.alpha {
-            b.flag(alpha.premultiplied);
-        }
-        b.bytes(self.cicp.as_ref().map_or(&[], |c| &c[..]));
-        for kind in self.types.iter().flatten() {
-            b.bytes(kind);
-        }
     }
 
     fn put_sizes(&self, b: &mut BitString) {
@@ -337,17 +365,6 @@ fn put_depth(b: &mut BitString, depth: Depth) {
             b.put(3, more);
         }
         Depth::Float(code) => b.put(2, code),
-    }
-}
-
-fn put_hdr(b: &mut BitString, hdr: &Hdr, large: bool) {
-    b.flag(hdr.gain_map.is_some());
-    if let Some(gain_map) = &hdr.gain_map {
-        put_gain_map(b, gain_map, large);
-    }
-    put_bodies(b, &hdr.bodies);
-    if let Some(gain_map) = &hdr.gain_map {
-        put_bodies(b, &gain_map.tmap_bodies);
     }
 }
 

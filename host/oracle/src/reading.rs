@@ -83,6 +83,7 @@ fn lacks_field(payload: &[u8], len: usize) -> Result<bool, String> {
     }
 }
 
+// The places of the chunks in stored order.
 const MAIN_CONFIG: usize = 0;
 const ALPHA_CONFIG: usize = 1;
 const GAIN_MAP_CONFIG: usize = 2;
@@ -114,7 +115,7 @@ fn stored(image: &MinimizedImage) -> [Option<&[u8]>; 11] {
 }
 
 /// The position and the length of each chunk that is present.
-type Spans = [Option<(usize, usize)>; 11];
+pub type Spans = [Option<(usize, usize)>; 11];
 
 impl Accepted {
     /// The record's layout. Every chunk must stand in the payload where its turn comes.
@@ -153,7 +154,8 @@ impl Accepted {
         Ok(out)
     }
 
-    fn spans(&self, payload: &[u8]) -> Result<Spans, String> {
+    /// Where the chunks lie, in stored order.
+    pub fn spans(&self, payload: &[u8]) -> Result<Spans, String> {
         let mut at = self.header_len;
         let mut spans = [None; 11];
         for (span, chunk) in spans.iter_mut().zip(stored(&self.image)) {
@@ -223,7 +225,7 @@ pub fn hdr_bodies(hdr: &MiniHdrBoxes) -> [Option<&[u8]>; 6] {
 }
 
 /// Present or not, position, length.
-fn put_chunk(out: &mut Vec<u8>, span: Option<(usize, usize)>) {
+pub fn put_chunk(out: &mut Vec<u8>, span: Option<(usize, usize)>) {
     out.push(span.is_some() as u8);
     put_span(out, span);
 }

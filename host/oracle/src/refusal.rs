@@ -24,6 +24,20 @@ pub fn of_box_header(error: &HeifError) -> Result<u64, String> {
     }
 }
 
+/// The number of an error of `FileType::parse`.
+pub fn of_file_type(error: &HeifError) -> Result<u64, String> {
+    let HeifError::InvalidData(message) = error else {
+        return Err(unknown(error));
+    };
+    if message.starts_with("truncated ftyp m") {
+        Ok(17)
+    } else if message.ends_with(" trailing bytes (brands are 4-byte aligned)") {
+        Ok(15)
+    } else {
+        Err(unknown(error))
+    }
+}
+
 /// A place where `MinimizedImage::parse` refuses: the refusal's number and the name in its message.
 #[derive(Clone, Copy, Debug, PartialEq, Eq)]
 pub struct Place {
