@@ -61,6 +61,6 @@ impl<'a> Fields<'a> {
 
     /// Every byte of the layout must have been taken.
     pub fn finish(self) {
-        debug_assert!(self.0.is_empty(), "{} bytes are left", self.0.len());
+        assert!(self.0.is_empty(), "{} bytes are left", self.0.len());
     }
 }

@@ -17,7 +17,8 @@ usage: bustardcase COMMAND ..
   --version        prints the version
 
 FILE and IN are a file with an 'ftyp' and a 'mini' box, or the bare payload of a
-'mini' box; '-' is the standard input. OUT '-' is the standard output.
+'mini' box; '-' is the standard input. A 'mini' box alone is taken too. OUT '-'
+is the standard output.
 
 A picture that cannot be read or written gets one line on the standard error:
 the number of the refusal and its meaning. docs/ABI.md lists them. OUT is then

@@ -54,7 +54,7 @@ fn one(payload: &[u8]) -> Result<bool, String> {
         &check.width_fits,
         &(image.width <= 1_920),
     )?;
-    let end = outline.as_stored.iter().filter_map(|c| c.place).last();
+    let end = outline.as_stored.iter().filter_map(|c| c.place).next_back();
     let end = end.map_or(0, |chunk| chunk.at + chunk.len);
     same("what is ignored", &outline.ignored, &(payload.len() - end))?;
     Ok(true)

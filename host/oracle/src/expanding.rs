@@ -30,7 +30,7 @@ pub fn answer(payload: &[u8], original: &OriginalType) -> Result<Answer, String>
         Reading::Refused(place) => return Ok(Answer::Refused(PLACES[place].number)),
         Reading::Accepted(accepted) => accepted.image,
     };
-    let allowed = original.brands.len() % 4 == 0 && original.brands.len() <= 4096;
+    let allowed = original.brands.len().is_multiple_of(4) && original.brands.len() <= 4096;
     let whole = original.brands.len() / 4 * 4;
     let brands = original.brands[..whole]
         .chunks(4)
@@ -155,10 +155,9 @@ pub fn random_plan(r: &mut Random) -> Plan {
         types[r.below(2) as usize] = *b"uuid";
     }
     plan.types = Some(types);
-    if let Some(alpha) = &mut plan.alpha {
-        if alpha.data == 0 && !r.once_in(8) {
+    if let Some(alpha) = &mut plan.alpha
+        && alpha.data == 0 && !r.once_in(8) {
             alpha.data = 1;
         }
-    }
     plan
 }

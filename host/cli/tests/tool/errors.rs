@@ -1,10 +1,11 @@
 //! What goes wrong: one line on the standard error, the status, and OUT as it was.
 
-use crate::folder::Folder;
+use crate::folder::{Folder, TOOL, run};
 use crate::json::Json;
 use crate::payloads::{FTYP, SMALLEST, TEN, TYPED, boxed, file};
 use std::fs;
 use std::path::Path;
+use std::process::Command;
 
 /// Runs each case; the line comes after 'bustardcase: '. No file may change, and none may be added.
 fn each(folder: &Folder, status: i32, cases: &[(&[&str], &str)]) {
@@ -138,6 +139,29 @@ fn a_full_device() {
     folder.put("in", TYPED);
     let line = "/dev/full: No space left on device (os error 28)";
     each(&folder, 2, &[(&["expand", "in", "/dev/full"], line)]);
+
+    let mut command = Command::new("sh");
+    let line = format!("exec '{TOOL}' show in >/dev/full");
+    command.args(["-c", &line]).current_dir(&folder.0);
+    let ran = run(command, b"");
+    let line = "bustardcase: standard output: No space left on device (os error 28)\n";
+    assert_eq!((ran.status, ran.err.as_str()), (2, line));
+}
+
+/// The writing itself fails, after the file beside OUT was made.
+#[test]
+fn no_room_for_the_file() {
+    let folder = Folder::new("errors-room");
+    folder.put("in", TYPED);
+    folder.put("out", b"before");
+    let before = folder.files();
+    let mut command = Command::new("sh");
+    let line = format!("trap '' XFSZ; ulimit -f 0; exec '{TOOL}' expand in out");
+    command.args(["-c", &line]).current_dir(&folder.0);
+    let ran = run(command, b"");
+    let line = "bustardcase: out: File too large (os error 27)\n";
+    assert_eq!((ran.status, ran.err.as_str()), (2, line));
+    assert_eq!(folder.files(), before);
 }
 
 #[test]
