@@ -156,8 +156,10 @@ pub fn random_plan(r: &mut Random) -> Plan {
     }
     plan.types = Some(types);
     if let Some(alpha) = &mut plan.alpha
-        && alpha.data == 0 && !r.once_in(8) {
-            alpha.data = 1;
-        }
+        && alpha.data == 0
+        && !r.once_in(8)
+    {
+        alpha.data = 1;
+    }
     plan
 }

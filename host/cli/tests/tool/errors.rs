@@ -130,6 +130,7 @@ fn files_that_cannot_be_read_or_written() {
     assert_eq!(left.count(), 0);
 }
 
+/// The shell opens the device, so that the tool knows no name that it could replace.
 #[test]
 fn a_full_device() {
     if !Path::new("/dev/full").exists() {
@@ -137,15 +138,14 @@ fn a_full_device() {
     }
     let folder = Folder::new("errors-full");
     folder.put("in", TYPED);
-    let line = "/dev/full: No space left on device (os error 28)";
-    each(&folder, 2, &[(&["expand", "in", "/dev/full"], line)]);
-
-    let mut command = Command::new("sh");
-    let line = format!("exec '{TOOL}' show in >/dev/full");
-    command.args(["-c", &line]).current_dir(&folder.0);
-    let ran = run(command, b"");
-    let line = "bustardcase: standard output: No space left on device (os error 28)\n";
-    assert_eq!((ran.status, ran.err.as_str()), (2, line));
+    for words in ["show in", "expand in -"] {
+        let mut command = Command::new("sh");
+        let line = format!("exec '{TOOL}' {words} >/dev/full");
+        command.args(["-c", &line]).current_dir(&folder.0);
+        let ran = run(command, b"");
+        let line = "bustardcase: standard output: No space left on device (os error 28)\n";
+        assert_eq!((ran.status, ran.err.as_str()), (2, line));
+    }
 }
 
 /// The writing itself fails, after the file beside OUT was made.

@@ -1,9 +1,10 @@
 //! `shrink` and `expand`.
 
-use crate::folder::Folder;
-use crate::payloads::{ALPHA, FTYP, SMALLEST, TEN, TYPED, boxed, everything, file};
+use crate::folder::{Folder, TOOL, run};
+use crate::payloads::{FTYP, SMALLEST, TEN, TYPED, boxed, everything, file};
 use std::fs;
-use std::os::unix::fs::{PermissionsExt, symlink};
+use std::os::unix::fs::{FileTypeExt, PermissionsExt, symlink};
+use std::process::Command;
 
 #[test]
 fn shrink_makes_eight_bytes_of_ten() {
@@ -141,11 +142,18 @@ fn options_may_stand_anywhere() {
     assert_eq!(folder.get("out"), first);
 }
 
+/// A pipe, as a device, is written to and stays. The test makes its own: a tool that renamed would
+/// otherwise replace a device of the machine.
 #[test]
-fn a_device_is_written_to() {
-    let folder = Folder::new("shrink-device");
-    folder.put("in", ALPHA);
-    folder.run(&["shrink", "in", "/dev/null"]).text(0);
-    let null = fs::metadata("/dev/null").expect("the device is still there");
-    assert!(!null.is_file());
+fn a_pipe_stays_a_pipe() {
+    let folder = Folder::new("shrink-pipe");
+    folder.put("in", TEN);
+    let mut command = Command::new("sh");
+    let line =
+        format!("mkfifo pipe && {{ timeout 60 cat pipe >got & '{TOOL}' shrink in pipe; wait; }}");
+    command.args(["-c", &line]).current_dir(&folder.0);
+    assert_eq!(run(command, b"").text(0), "");
+    assert_eq!(folder.get("got"), SMALLEST);
+    let pipe = fs::metadata(folder.0.join("pipe")).expect("the pipe is still there");
+    assert!(pipe.file_type().is_fifo());
 }
