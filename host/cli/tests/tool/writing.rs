@@ -116,17 +116,25 @@ fn the_original_file_type() {
     let as_file = |ftyp: &[u8]| expanded(&[], &file(ftyp, TYPED));
     let plain = expanded(&[], TYPED);
     assert_eq!(as_file(b"mif3\0\0\0\0mif3"), plain);
-    let own = as_file(b"heic\0\0\0\x07mif3avif");
-    assert_ne!(own, plain);
-    let options = ["--major", "heic", "--minor", "7", "--brands", "mif3,avif"];
+    // Under 'mif3' the minor version becomes the major brand.
+    let own = as_file(b"mif3avifmif3heic");
+    assert_eq!(&own[..28], b"\0\0\0\x1Cftypavif\0\0\0\0mif3heicmif1");
+    let options = ["--minor", "0x61766966", "--brands", "mif3,heic"];
     assert_eq!(expanded(&options, TYPED), own);
-    let options = ["--major=heic", "--minor=0x7", "--brands=mif3,avif"];
-    assert_eq!(expanded(&options, &file(b"abcd\0\0\0\x01efgh", TYPED)), own);
+    let options = ["--major=mif3", "--minor=1635150182", "--brands=mif3,heic"];
+    assert_eq!(expanded(&options, &file(b"abcdefghijkl", TYPED)), own);
     assert_eq!(
-        expanded(&["--minor", "9"], &file(b"heic\0\0\0\x07mif3avif", TYPED)),
-        as_file(b"heic\0\0\0\x09mif3avif")
+        expanded(&["--minor", "0"], &file(b"mif3avifmif3heic", TYPED)),
+        as_file(b"mif3\0\0\0\0mif3heic")
     );
-    assert_eq!(expanded(&["--brands", ""], TYPED), as_file(b"mif3\0\0\0\0"));
+    assert_eq!(
+        expanded(&["--major", "heic"], &file(b"mif3avifmif3", TYPED)),
+        as_file(b"heicavifmif3")
+    );
+    assert_eq!(
+        expanded(&["--brands", ""], &file(b"heicavifmif3", TYPED)),
+        as_file(b"heicavif")
+    );
     // A 'mini' box alone has no file type of its own.
     assert_eq!(expanded(&[], &boxed(b"mini", TYPED)), plain);
 }
