@@ -22,22 +22,17 @@ pub fn lines(group: &Group) -> String {
 /// Words with spaces between them, in lines of at most 80 columns, each but the first behind `indent`
 /// spaces.
 pub fn wrapped<T: AsRef<str>>(words: &[T], indent: usize) -> String {
-    let mut out = String::new();
-    let mut column = indent;
+    let mut lines: Vec<String> = Vec::new();
     for word in words.iter().map(AsRef::as_ref) {
-        if out.is_empty() {
-        } else if column + 1 + word.len() > COLUMNS {
-            out.push('\n');
-            out += &" ".repeat(indent);
-            column = indent;
-        } else {
-            out.push(' ');
-            column += 1;
+        match lines.last_mut() {
+            Some(line) if indent + line.len() + 1 + word.len() <= COLUMNS => {
+                line.push(' ');
+                line.push_str(word);
+            }
+            _ => lines.push(word.to_string()),
         }
-        out += word;
-        column += word.len();
     }
-    out
+    lines.join(&format!("\n{:indent$}", ""))
 }
 
 /// How many of a thing, in words: `1 byte`, `2 bytes`.
