@@ -2,15 +2,15 @@
 //! on which answers are compared.
 
 pub mod answer;
-pub mod bits;
 pub mod box_cases;
 pub mod boxes;
 pub mod expanding;
 pub mod fields;
 pub mod hex;
 pub mod payloads;
-pub mod plan;
 pub mod random;
 pub mod reading;
 pub mod refusal;
 pub mod samples;
+
+pub use plan;
