@@ -47,8 +47,8 @@ pub const ALL: [Edit; 14] = [
         sample: "everything",
         after: b"iloc",
         skip: 8 + 11,
-        from: 0x5B,
-        to: 0x5C,
+        from: 0x8B,
+        to: 0x8C,
         seen_by: &[BOXES, "exiftool", "exiv2", "ffprobe"],
     },
     Edit {

@@ -3,7 +3,11 @@
 use std::collections::BTreeMap;
 
 #[derive(Default)]
-pub struct Facts(BTreeMap<String, String>);
+pub struct Facts {
+    told: BTreeMap<String, String>,
+    /// What only some versions of a tool tell: it may be missing.
+    optional: BTreeMap<String, String>,
+}
 
 /// A fact that is not as expected. One that is not told is empty.
 #[derive(Clone)]
@@ -40,24 +44,32 @@ impl Facts {
     /// What is told twice counts as told together, and so is no longer what was expected once.
     pub fn say(&mut self, fact: impl Into<String>, value: impl Into<String>) {
         let value = value.into();
-        self.0
+        self.told
             .entry(fact.into())
             .and_modify(|told| *told = format!("{told}; {value}"))
             .or_insert(value);
     }
 
+    pub fn may_say(&mut self, fact: impl Into<String>, value: impl Into<String>) {
+        self.optional.insert(fact.into(), value.into());
+    }
+
+    fn value(&self, fact: &String) -> &str {
+        let found = self.told.get(fact).or_else(|| self.optional.get(fact));
+        found.map_or("", String::as_str)
+    }
+
     /// These are what is expected. Of a file that was turned away, nothing else is asked.
     pub fn compare(&self, reported: &Facts) -> Comparison {
-        let mut names: Vec<&String> = self.0.keys().chain(reported.0.keys()).collect();
+        let mut names: Vec<&String> = self.told.keys().chain(reported.told.keys()).collect();
         names.sort();
         names.dedup();
-        if reported.0.get(OPENED).is_some_and(|told| told != "yes") {
+        if reported.told.get(OPENED).is_some_and(|told| told != "yes") {
             names.retain(|name| *name == OPENED);
         }
-        let value = |facts: &Facts, name: &String| facts.0.get(name).cloned().unwrap_or_default();
         let mut comparison = Comparison::default();
         for name in names {
-            let (expected, reported) = (value(self, name), value(reported, name));
+            let [expected, reported] = [self, reported].map(|facts| facts.value(name).to_string());
             if expected == reported {
                 comparison.agreeing += 1;
             } else {

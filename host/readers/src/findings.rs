@@ -1,5 +1,5 @@
-//! Where a tool deviates and the file is right: each with its reason. An entry that no longer occurs
-//! is an error, as is a deviation that no entry covers.
+//! Where a tool deviates: each with its reason. An entry that no longer occurs is an error, as is a
+//! deviation that no entry covers. docs/DIFFERENCES.md tells more of them.
 
 use crate::case::Case;
 use crate::expect::is_picture;
@@ -8,81 +8,130 @@ use crate::model::MAIN;
 
 pub struct Finding {
     pub tool: &'static str,
+    /// The versions with which it was seen, by their first characters. With others it may be gone.
+    pub seen_with: &'static [&'static str],
     /// The files that show it: all of them must.
     pub files: fn(&Case) -> bool,
     pub is: fn(&Difference) -> bool,
     pub why: &'static str,
 }
 
-pub const ALL: [Finding; 13] = [
+pub const ALL: [Finding; 18] = [
     Finding {
         tool: "heif-info",
+        seen_with: &["1.15.", "1.19."],
         files: |case| codec(case) == *b"av01" && case.record.main_config().is_empty(),
         is: |d| d.reported.ends_with("No 'av1C' box"),
-        why: "refuses an AV1 picture without configuration; the payload has none, and AVIF demands one",
+        why: "refuses an AV1 picture without configuration; the payload has none, and AVIF asks for one",
     },
     Finding {
         tool: "heif-info",
-        files: |case| ![*b"av01", *b"hvc1"].contains(&codec(case)),
+        seen_with: &["1.15."],
+        files: |case| codec(case) == *b"jpeg",
         is: |d| d.fact == OPENED && d.reported.contains("'pitm' box references"),
-        why: "does not know the item types 'jpeg' and 'unci', so that it finds no primary picture",
+        why: "does not know the item type 'jpeg', so that it finds no primary picture",
     },
     Finding {
         tool: "heif-info",
+        seen_with: &["1.15.", "1.19."],
+        files: |case| codec(case) == *b"unci",
+        is: |d| d.fact == OPENED,
+        why: "does not open an uncompressed picture without configuration",
+    },
+    Finding {
+        tool: "heif-info",
+        seen_with: &["1.15.", "1.19."],
         files: has_compressed_exif,
-        is: |d| d.fact == "Exif" || d.fact == "dExf/",
+        is: |d| ["Exif", "dExf/"].contains(&d.fact.as_str()),
         why: "does not know the item type 'dExf' of compressed Exif",
     },
     Finding {
         tool: "heif-info",
+        seen_with: &["1.15."],
         files: has_compressed_xmp,
         is: |d| d.fact == "XMP" && d.reported == "0 bytes",
         why: "takes 'deflate' for zlib's form (RFC 1950), not for the bare one (RFC 1951)",
     },
     Finding {
+        tool: "heif-info",
+        seen_with: &["1.19."],
+        files: has_compressed_xmp,
+        is: |d| d.fact == OPENED && d.reported.contains("Unsupported codec"),
+        why: "refuses a file with compressed XMP",
+    },
+    Finding {
+        tool: "heif-convert",
+        seen_with: &["1.19."],
+        files: has_compressed_xmp,
+        is: |d| d.fact == OPENED && d.reported.contains("Unsupported codec"),
+        why: "refuses a file with compressed XMP",
+    },
+    Finding {
         tool: "exiftool",
+        seen_with: &["12.57", "13.25"],
         files: |_| true,
         is: |d| d.fact == "property 32" && d.reported.is_empty(),
         why: "does not list the last of the 32 property boxes, which is empty",
     },
     Finding {
         tool: "exiftool",
+        seen_with: &["12.57", "13.25"],
         files: |case| ![*b"avif", *b"heic", *b"mif1"].contains(&case.model.major),
         is: |d| d.fact == "FileType" && d.reported == "MP4",
         why: "takes the major brands 'mif3' and 'jpeg', which it does not know, for MP4",
     },
     Finding {
         tool: "exiftool",
+        seen_with: &["12.57", "13.25"],
         files: has_compressed_exif,
         is: |d| d.fact == "Make" && d.reported.is_empty(),
         why: "does not know the item type 'dExf' of compressed Exif",
     },
     Finding {
         tool: "exiftool",
+        seen_with: &["12.57", "13.25"],
         files: has_compressed_xmp,
         is: |d| ["Source", "Warning"].contains(&d.fact.as_str()),
-        why: "does not read compressed XMP, and says so",
+        why: "does not read compressed XMP, and warns",
     },
     Finding {
         tool: "exiv2",
+        seen_with: &["0.27.6", "0.28.5"],
         files: |case| boxes_in_meta(case) > case.file.len() / 16,
-        is: |d| d.reported == "no: corrupted image metadata",
-        why: "refuses more boxes than a sixteenth of the file's bytes; an unused property has eight bytes",
+        is: |d| d.fact == OPENED && d.reported.contains("corrupted image metadata"),
+        why: "refuses more boxes than a sixteenth of the file's bytes; an unused property has eight",
     },
     Finding {
         tool: "exiv2",
-        files: |case| case.record.compressed(),
+        seen_with: &["0.27.6", "0.28.5"],
+        files: |case| case.record.compressed() && boxes_in_meta(case) <= case.file.len() / 16,
         is: |d| d.fact.ends_with("Make") || d.fact.ends_with("source"),
         why: "reads neither compressed Exif nor compressed XMP",
     },
     Finding {
         tool: "avifdec --info",
-        files: |case| case.record.compressed(),
-        is: |d| d.fact.ends_with("Metadata"),
-        why: "does not know 'dExf', and hands compressed XMP out as it lies",
+        seen_with: &["0.11.", "1.2."],
+        files: has_compressed_exif,
+        is: |d| d.fact == "Exif Metadata" && d.reported == "Absent",
+        why: "does not know the item type 'dExf' of compressed Exif",
+    },
+    Finding {
+        tool: "avifdec --info",
+        seen_with: &["0.11.", "1.2."],
+        files: has_compressed_xmp,
+        is: |d| d.fact == "XMP Metadata",
+        why: "hands out compressed XMP as it lies",
+    },
+    Finding {
+        tool: "avifdec --info",
+        seen_with: &["1.2."],
+        files: |case| case.record.gain_map().is_some_and(|g| g.data.is_empty()),
+        is: |d| d.fact == OPENED && d.reported.contains("must have exactly 2 entries"),
+        why: "asks for two inputs of a tone-mapped picture; without gain-map data the file names one",
     },
     Finding {
         tool: "mediainfo",
+        seen_with: &["v23.04", "v25.04"],
         files: |case| pictures(case) > 1 || unused_before_used(case),
         is: |d| {
             ["Width", "Height", "Rotation"]
@@ -93,6 +142,7 @@ pub const ALL: [Finding; 13] = [
     },
     Finding {
         tool: "mediainfo",
+        seen_with: &["v23.04", "v25.04"],
         files: has_compressed_exif,
         is: |d| d.fact.starts_with("image 6 ") || d.fact.starts_with("image 1 "),
         why: "takes an item of type 'dExf' for a picture",

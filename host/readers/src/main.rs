@@ -75,21 +75,24 @@ fn installed() -> Result<Vec<(&'static Tool, String)>, String> {
 fn compare(tool: &Tool, version: &str, cases: &[&Case]) -> Result<(), String> {
     let mut agreeing = 0;
     let mut listed = 0;
+    let mut shown = Vec::new();
     for case in cases {
         let found = comparison(tool, case)?;
         if let Some(difference) = unlisted(tool, case, &found) {
             return Err(describe(tool, case, difference));
         }
-        missing_finding(tool, case, &found)?;
+        missing_finding(tool, version, case, &found)?;
         agreeing += found.agreeing;
         listed += found.differences.len();
+        let occurring = findings_of(tool, case).filter(|f| found.differences.iter().any(f.is));
+        shown.extend(occurring.map(|finding| finding.why));
     }
     println!(
         "{} {version}: {} files, {agreeing} facts agree, {listed} deviate as listed",
         tool.name,
         cases.len()
     );
-    print_findings(tool, cases);
+    print_findings(tool, &shown);
     Ok(())
 }
 
@@ -110,9 +113,15 @@ fn findings_of(tool: &Tool, case: &Case) -> impl Iterator<Item = &'static Findin
 }
 
 /// A finding that a file should show and does not.
-fn missing_finding(tool: &Tool, case: &Case, found: &Comparison) -> Result<(), String> {
+fn missing_finding(
+    tool: &Tool,
+    version: &str,
+    case: &Case,
+    found: &Comparison,
+) -> Result<(), String> {
+    let is_due = |f: &&Finding| f.seen_with.iter().any(|seen| version.starts_with(seen));
     let occurs = |finding: &Finding| found.differences.iter().any(finding.is);
-    match findings_of(tool, case).find(|finding| !occurs(finding)) {
+    match findings_of(tool, case).filter(is_due).find(|f| !occurs(f)) {
         None => Ok(()),
         Some(finding) => Err(format!(
             "{}: {}: this finding no longer occurs: {}",
@@ -136,15 +145,14 @@ fn or_nothing(text: &str) -> &str {
     if text.is_empty() { "nothing" } else { text }
 }
 
-fn print_findings(tool: &Tool, cases: &[&Case]) {
+/// How many files show each finding.
+fn print_findings(tool: &Tool, shown: &[&str]) {
     for finding in findings::ALL.iter().filter(|f| f.tool == tool.name) {
-        let files = cases.iter().filter(|case| (finding.files)(case)).count();
-        let files = if files == 1 {
-            "1 file".to_string()
-        } else {
-            format!("{files} files")
-        };
-        println!("  finding in {files}: {}", finding.why);
+        match shown.iter().filter(|why| **why == finding.why).count() {
+            0 => {}
+            1 => println!("  finding in 1 file: {}", finding.why),
+            files => println!("  finding in {files} files: {}", finding.why),
+        }
     }
 }
 

@@ -35,8 +35,17 @@ const HVC: [[u8; 4]; 2] = [*b"hvc1", *b"hvcC"];
 const JPEG: [[u8; 4]; 2] = [*b"jpeg", *b"jpgC"];
 const UNCOMPRESSED: [[u8; 4]; 2] = [*b"unci", *b"uncC"];
 
-/// Gain-map metadata: any bytes will do, since no tool here looks into them.
-const METADATA: &[u8] = &[0, 0, 0, 0, 0x40, 0, 0, 0, 0, 0, 0, 0, 1];
+/// Gain-map metadata of ISO 21496-1 for one channel: two versions of 0, no flags, then fractions, as
+/// numerator and denominator: headroom of the main and of the tone-mapped picture, least and greatest
+/// gain, gamma, two offsets.
+fn metadata() -> Vec<u8> {
+    let fractions = [[0, 1], [2, 1], [0, 1], [2, 1], [1, 1], [1, 64], [1, 64]];
+    let mut bytes = vec![0; 5];
+    for number in fractions.concat() {
+        bytes.extend(u32::to_be_bytes(number));
+    }
+    bytes
+}
 
 pub fn all() -> Vec<Sample> {
     let mut drafts = vec![smallest(), av1("plain", pictures::AV1_420, 1)];
@@ -79,7 +88,7 @@ fn av1(name: &str, main: Coded, subsampling: u32) -> Draft {
         main,
         alpha: None,
         gain_map: None,
-        metadata: METADATA.to_vec(),
+        metadata: metadata(),
         icc: None,
         tmap_icc: None,
         exif: None,
@@ -164,11 +173,13 @@ fn texts() -> Vec<Draft> {
     both.plan.orientation = 5;
     both.exif = exif.exif.clone();
     both.xmp = xmp.xmp.clone();
-    let mut compressed = plain("exif-xmp-compressed");
-    compressed.plan.compressed = true;
-    compressed.exif = Some(pictures::deflated(&pictures::exif()));
-    compressed.xmp = Some(pictures::deflated(&pictures::xmp()));
-    vec![exif, xmp, both, compressed]
+    let mut exif_compressed = plain("exif-compressed");
+    exif_compressed.plan.compressed = true;
+    exif_compressed.exif = Some(pictures::deflated(&pictures::exif()));
+    let mut xmp_compressed = plain("xmp-compressed");
+    xmp_compressed.plan.compressed = true;
+    xmp_compressed.xmp = Some(pictures::deflated(&pictures::xmp()));
+    vec![exif, xmp, both, exif_compressed, xmp_compressed]
 }
 
 fn alphas() -> Vec<Draft> {
@@ -232,9 +243,10 @@ fn other_codecs() -> Vec<Draft> {
     full.set_alpha(pictures::HEVC, false);
     full.exif = Some(pictures::exif());
     full.xmp = Some(pictures::xmp());
-    let mut jpeg = av1("jpeg", NO_PICTURE, 0);
+    let mut jpeg = av1("jpeg", pictures::JPEG, 1);
     jpeg.minor = *b"jpeg";
     jpeg.plan.types = Some(JPEG);
+    (jpeg.plan.width, jpeg.plan.height) = (15, 7);
     vec![hevc, full, jpeg]
 }
 

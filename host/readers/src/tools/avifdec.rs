@@ -4,7 +4,7 @@ use super::{Tool, cut, run};
 use crate::case::Case;
 use crate::expect;
 use crate::facts::Facts;
-use crate::model::{MAIN, Model};
+use crate::model::{MAIN, Model, TMAP};
 use crate::pictures::text_length;
 
 pub const TOOL: Tool = Tool {
@@ -15,6 +15,9 @@ pub const TOOL: Tool = Tool {
     expected,
     reported,
 };
+
+/// The heading of what is told of the tone-mapped picture.
+const ALTERNATE: &str = "Alternate image";
 
 fn expected(case: &Case) -> Facts {
     let model = &case.model;
@@ -41,6 +44,7 @@ fn expected(case: &Case) -> Facts {
     let exif = record.exif().map(|exif| length(exif) - 4);
     facts.say("Exif Metadata", present(exif));
     transformations(model, &mut facts);
+    newer(case, &mut facts);
     facts
 }
 
@@ -89,9 +93,55 @@ fn transformations(model: &Model, facts: &mut Facts) {
         facts.say("irot (Rotation)", angle.to_string());
     }
     match axis {
-        Some(0) => facts.say("imir (Mirror)", "Mode 0 (top-to-bottom)"),
-        Some(_) => facts.say("imir (Mirror)", "Mode 1 (left-to-right)"),
+        Some(0) => facts.say("imir (Mirror)", "0 (top-to-bottom)"),
+        Some(_) => facts.say("imir (Mirror)", "1 (left-to-right)"),
         None => {}
+    }
+}
+
+/// What it tells from version 1.2 on: the gain map, and the tone-mapped picture's colours.
+fn newer(case: &Case, facts: &mut Facts) {
+    if let [clli] = case.model.properties_of(MAIN, b"clli")[..] {
+        let number = |at: usize| u16::from_be_bytes([clli.body[at], clli.body[at + 1]]);
+        facts.may_say("CLLI", format!("{}, {}", number(0), number(2)));
+    }
+    let Some(gain_map) = case.record.gain_map().filter(|g| !g.data.is_empty()) else {
+        facts.may_say("Gain map", "Absent");
+        return;
+    };
+    let range = if gain_map.full_range {
+        "Full"
+    } else {
+        "Limited"
+    };
+    let parts = [
+        format!("{}x{} pixels", gain_map.width, gain_map.height),
+        format!("{} bit", gain_map.format.bits),
+        format(gain_map.chroma.subsampling).to_string(),
+        format!("{range} Range"),
+        format!("Matrix Coeffs. {}", gain_map.matrix),
+        // The metadata gives the main picture no headroom.
+        "Base Image is SDR".to_string(),
+    ];
+    facts.may_say("Gain map", parts.join(", "));
+    alternate(case, facts);
+}
+
+fn alternate(case: &Case, facts: &mut Facts) {
+    let all = case.model.properties_of(TMAP, b"colr");
+    let cicp = all.iter().find_map(|p| expect::cicp(p));
+    let (numbers, _) = cicp.unwrap_or(([2, 2, 2], false));
+    let [primaries, transfer, matrix] = numbers.map(|n| n.to_string());
+    let profile = all.iter().find_map(|p| expect::profile(p));
+    let profile = present(profile.map(<[u8]>::len));
+    let names = [
+        "Color Primaries",
+        "Transfer Char.",
+        "Matrix Coeffs.",
+        "ICC Profile",
+    ];
+    for (name, value) in names.iter().zip([primaries, transfer, matrix, profile]) {
+        facts.may_say(format!("{ALTERNATE} {name}"), value);
     }
 }
 
@@ -104,17 +154,22 @@ fn reported(case: &Case) -> Result<Facts, String> {
         ));
     }
     let mut facts = Facts::opened();
+    let mut whose = "";
     for line in answer.text.lines() {
-        let Some((name, value)) = line
-            .trim()
-            .strip_prefix("* ")
-            .and_then(|line| cut(line, ":"))
-        else {
+        let Some(line) = line.trim().strip_prefix("* ") else {
             continue;
         };
-        // These three are the codec's, or speak of sequences.
-        if !["Chroma Sam. Pos", "Progressive", "Frame"].contains(&name) {
-            facts.say(name, value);
+        let Some((name, value)) = cut(line, ":") else {
+            continue;
+        };
+        match name {
+            // The codec's, and what speaks of sequences.
+            "Chroma Sam. Pos" | "Progressive" | "Frame" => {}
+            ALTERNATE => whose = ALTERNATE,
+            _ => {
+                let name = format!("{whose} {name}");
+                facts.say(name.trim(), value.trim_start_matches("Mode "));
+            }
         }
     }
     Ok(facts)

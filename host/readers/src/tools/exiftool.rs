@@ -106,11 +106,11 @@ fn tell_tag(line: &str, facts: &mut Facts) {
     match name {
         "MajorBrand" => facts.say("major brand", value),
         "CompatibleBrands" => facts.say("brands", list(value.split(", "))),
+        "Rotation" => facts.say(name, degrees(value)),
         "FileType"
         | "ImageWidth"
         | "ImageHeight"
         | "ImageSpatialExtent"
-        | "Rotation"
         | "AuxiliaryImageType"
         | "ColorPrimaries"
         | "TransferCharacteristics"
@@ -122,6 +122,16 @@ fn tell_tag(line: &str, facts: &mut Facts) {
         | "Warning"
         | "Error" => facts.say(name, value),
         _ => {}
+    }
+}
+
+/// Later versions give quarter turns.
+fn degrees(value: &str) -> &str {
+    match value {
+        "1" => "90",
+        "2" => "180",
+        "3" => "270",
+        _ => value,
     }
 }
 
@@ -152,7 +162,8 @@ fn tell_item(rest: &str, kind: &str, case: &Case, facts: &mut Facts) -> Result<(
     } else if let Some((id, entry)) = cut(rest, ": Type=") {
         let (kind, content) = cut(entry, " Name= ContentType=").unwrap_or((entry, ""));
         facts.say(format!("item {id}"), kind);
-        facts.say(format!("item {id} content type"), content);
+        let content = content.trim_end_matches("(PrimaryItem)");
+        facts.say(format!("item {id} content type"), content.trim());
     } else if let Some((id, place)) = cut(rest, ": const_meth=0 base=0x0 offset=") {
         let (start, length) = cut(place, " len=").ok_or(format!("no length: {place}"))?;
         let bytes = print_part(&case.file, number(start)?, number(length)?);

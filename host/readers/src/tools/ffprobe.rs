@@ -41,14 +41,10 @@ fn pixel_format(case: &Case) -> String {
 }
 
 fn reported(case: &Case) -> Result<Facts, String> {
-    let arguments = [
-        "-v",
-        "error",
-        "-show_streams",
-        "-show_packets",
-        "-show_format",
-    ];
-    let answer = run(TOOL.program, &[&arguments[..], &[&case.path]].concat())?;
+    // Later versions show the hidden pictures as further streams.
+    let first = ["-v", "error", "-select_streams", "v:0"];
+    let show = ["-show_streams", "-show_packets", "-show_format"];
+    let answer = run(TOOL.program, &[&first[..], &show, &[&case.path]].concat())?;
     if !answer.good {
         return Ok(Facts::refused(&answer.errors));
     }

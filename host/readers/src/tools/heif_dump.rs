@@ -124,7 +124,7 @@ impl Dumped<'_> {
     fn field(&self, name: &str) -> String {
         let fields = self.lines.iter().filter_map(|line| cut(line, ":"));
         let mut values = fields.filter(|(n, _)| *n == name).map(|(_, value)| value);
-        values.next().unwrap_or("not told").to_string()
+        values.next().unwrap_or_default().to_string()
     }
 
     /// The box's length, of 'size: 20   (header size: 12)'.
@@ -172,7 +172,11 @@ fn tell(dumped: &Dumped, case: &Case, facts: &mut Facts) -> Result<(), String> {
         "infe" => tell_item(dumped, facts),
         "iref" => tell_references(dumped, facts),
         "ipma" => tell_links(dumped, facts),
-        "grpl" => tell_group(dumped, facts),
+        // From version 1.19 on the group is a box of its own.
+        "grpl" if !dumped.field("group id").is_empty() => {
+            tell_group(&dumped.field("group type"), dumped, facts);
+        }
+        "altr" => tell_group("altr", dumped, facts),
         "iloc" => tell_locations(dumped, case, facts)?,
         _ => {}
     }
@@ -218,12 +222,8 @@ fn tell_links(dumped: &Dumped, facts: &mut Facts) {
     }
 }
 
-fn tell_group(dumped: &Dumped, facts: &mut Facts) {
-    let members = format!(
-        "{} {}",
-        dumped.field("group type"),
-        dumped.field("entity IDs")
-    );
+fn tell_group(kind: &str, dumped: &Dumped, facts: &mut Facts) {
+    let members = format!("{kind} {}", dumped.field("entity IDs"));
     facts.say(format!("group {}", dumped.field("group id")), members);
 }
 

@@ -2,7 +2,7 @@
 
 use super::{Answer, Tool, cut, every_file, run};
 use crate::case::Case;
-use crate::expect::{self, item_size};
+use crate::expect::{self, item_byte, item_size};
 use crate::facts::{Facts, list};
 use crate::model::MAIN;
 use crate::pictures::text_length;
@@ -30,6 +30,7 @@ fn expected(case: &Case) -> Facts {
     facts.say("depth channel", "no");
     texts(case, &mut facts);
     light(case, &mut facts);
+    newer(case, &mut facts);
     facts
 }
 
@@ -65,6 +66,22 @@ fn texts(case: &Case, facts: &mut Facts) {
     }
 }
 
+/// What it tells from version 1.19 on.
+fn newer(case: &Case, facts: &mut Facts) {
+    let sampling = ["monochrome", "YCbCr, 4:2:0", "YCbCr, 4:2:2", "YCbCr, 4:4:4"];
+    facts.may_say(
+        "colorspace",
+        sampling[case.record.chroma().subsampling as usize],
+    );
+    facts.may_say("bit depth", case.record.format().bits.to_string());
+    if let Some(angle) = item_byte(&case.model, MAIN, b"irot") {
+        facts.may_say("angle (ccw)", (angle as u32 * 90).to_string());
+    }
+    if let Some(axis) = item_byte(&case.model, MAIN, b"imir") {
+        facts.may_say("mirror", if axis == 1 { "horizontal" } else { "vertical" });
+    }
+}
+
 fn light(case: &Case, facts: &mut Facts) {
     let model = &case.model;
     if let [clli] = model.properties_of(MAIN, b"clli")[..] {
@@ -92,12 +109,12 @@ fn reported(case: &Case) -> Result<Facts, String> {
         return Ok(Facts::refused(&words));
     }
     let mut facts = Facts::opened();
-    let mut under_metadata = false;
+    let mut heading = "";
     for line in answer.text.lines() {
-        if line == "metadata:" {
-            under_metadata = true;
-        } else if under_metadata && line.trim() == "none" {
-            facts.say("metadata", "none");
+        if let Some(name) = line.strip_suffix(':') {
+            heading = name;
+        } else if line.trim() == "none" && heading == "metadata" {
+            facts.say(heading, "none");
         } else if let Some((name, value)) = cut(line, ": ") {
             tell(name, value, &mut facts);
         }
