@@ -9,8 +9,10 @@ pub struct Edit {
     /// The bytes before the wrong one: after their first occurrence, and so many more, it stands.
     after: &'static [u8],
     skip: usize,
-    from: u8,
-    to: u8,
+    /// What stands there, where that does not hang on the lengths of others.
+    was: Option<u8>,
+    /// The bits that are made wrong.
+    flip: u8,
     pub seen_by: &'static [&'static str],
 }
 
@@ -22,8 +24,8 @@ pub const ALL: [Edit; 14] = [
         sample: "everything",
         after: b"ispe",
         skip: 7,
-        from: 48,
-        to: 49,
+        was: Some(48),
+        flip: 0x01,
         seen_by: &["heif-info", BOXES, "exiftool", "exiv2", "avifdec --info"],
     },
     Edit {
@@ -31,8 +33,8 @@ pub const ALL: [Edit; 14] = [
         sample: "plain",
         after: b"ispe",
         skip: 11,
-        from: 32,
-        to: 33,
+        was: Some(32),
+        flip: 0x01,
         seen_by: &[
             "heif-info",
             BOXES,
@@ -47,8 +49,8 @@ pub const ALL: [Edit; 14] = [
         sample: "everything",
         after: b"iloc",
         skip: 8 + 11,
-        from: 0x8B,
-        to: 0x8C,
+        was: None,
+        flip: 0x03,
         seen_by: &[BOXES, "exiftool", "exiv2", "ffprobe"],
     },
     Edit {
@@ -56,8 +58,8 @@ pub const ALL: [Edit; 14] = [
         sample: "plain",
         after: b"iloc",
         skip: 8 + 15,
-        from: 36,
-        to: 35,
+        was: Some(36),
+        flip: 0x07,
         seen_by: &[BOXES, "exiftool", "ffprobe", "mediainfo"],
     },
     Edit {
@@ -65,8 +67,8 @@ pub const ALL: [Edit; 14] = [
         sample: "orientation-6",
         after: b"irot",
         skip: 0,
-        from: 3,
-        to: 1,
+        was: Some(3),
+        flip: 0x02,
         seen_by: &[BOXES, "heif-convert", "exiftool", "avifdec --info"],
     },
     Edit {
@@ -74,8 +76,8 @@ pub const ALL: [Edit; 14] = [
         sample: "orientation-2",
         after: b"imir",
         skip: 0,
-        from: 1,
-        to: 0,
+        was: Some(1),
+        flip: 0x01,
         seen_by: &[BOXES, "heif-convert", "exiftool", "avifdec --info"],
     },
     Edit {
@@ -83,8 +85,8 @@ pub const ALL: [Edit; 14] = [
         sample: "cicp-full-range",
         after: b"nclx",
         skip: 5,
-        from: 9,
-        to: 1,
+        was: Some(9),
+        flip: 0x08,
         seen_by: &[BOXES, "exiftool", "avifdec --info"],
     },
     Edit {
@@ -92,8 +94,8 @@ pub const ALL: [Edit; 14] = [
         sample: "ten-bits",
         after: b"pixi",
         skip: 5,
-        from: 10,
-        to: 8,
+        was: Some(10),
+        flip: 0x02,
         seen_by: &[BOXES, "exiftool", "avifdec --info"],
     },
     Edit {
@@ -101,8 +103,8 @@ pub const ALL: [Edit; 14] = [
         sample: "alpha-premultiplied",
         after: b"pre",
         skip: 0,
-        from: b'm',
-        to: b'n',
+        was: Some(b'm'),
+        flip: 0x03,
         seen_by: &["heif-info", BOXES, "exiftool", "avifdec --info"],
     },
     Edit {
@@ -110,8 +112,8 @@ pub const ALL: [Edit; 14] = [
         sample: "exif-xmp-turned",
         after: b"Exi",
         skip: 0,
-        from: b'f',
-        to: b'g',
+        was: Some(b'f'),
+        flip: 0x01,
         seen_by: &[
             "heif-info",
             BOXES,
@@ -126,8 +128,8 @@ pub const ALL: [Edit; 14] = [
         sample: "xmp",
         after: b"application/rdf+xm",
         skip: 0,
-        from: b'l',
-        to: b'k',
+        was: Some(b'l'),
+        flip: 0x07,
         seen_by: &["heif-info", BOXES, "exiftool", "avifdec --info"],
     },
     // The last property of the last item: the mirror of the gain map, essential.
@@ -136,8 +138,8 @@ pub const ALL: [Edit; 14] = [
         sample: "everything",
         after: b"\0\x04\x06\x91\x12\x13\x94\x89",
         skip: 0,
-        from: 0x8A,
-        to: 0x0A,
+        was: Some(0x8A),
+        flip: 0x80,
         seen_by: &[BOXES],
     },
     Edit {
@@ -145,8 +147,8 @@ pub const ALL: [Edit; 14] = [
         sample: "gain-map",
         after: b"altr",
         skip: 15,
-        from: 3,
-        to: 4,
+        was: Some(3),
+        flip: 0x07,
         seen_by: &[BOXES],
     },
     Edit {
@@ -154,8 +156,8 @@ pub const ALL: [Edit; 14] = [
         sample: "gain-map",
         after: b"mif1tma",
         skip: 0,
-        from: b'p',
-        to: b'q',
+        was: Some(b'p'),
+        flip: 0x01,
         seen_by: &["heif-info", BOXES, "exiftool", "ffprobe", "mediainfo"],
     },
 ];
@@ -168,10 +170,10 @@ impl Edit {
         let found = file.windows(self.after.len()).position(|w| w == self.after);
         let at =
             found.ok_or(format!("{}: nothing to edit", self.name))? + self.after.len() + self.skip;
-        if file[at] != self.from {
+        if self.was.is_some_and(|was| was != file[at]) {
             return Err(format!("{}: byte {at} is {:#04X}", self.name, file[at]));
         }
-        file[at] = self.to;
+        file[at] ^= self.flip;
         Case::with_file(sample, file, &format!("broken-{}", self.name))
     }
 }

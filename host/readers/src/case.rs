@@ -13,6 +13,8 @@ pub struct Case<'a> {
     pub model: Model,
     pub file: Vec<u8>,
     pub path: String,
+    /// The path as the report has it.
+    pub shown: String,
 }
 
 /// Where the files go: target/readers of the repository.
@@ -23,10 +25,11 @@ impl<'a> Case<'a> {
         let record = Record::read(&sample.payload)?;
         let mut case = Case {
             sample,
-            model: Model::new(&record, sample.minor),
+            model: Model::new(&record, sample.minor, &sample.brands),
             record,
-            file: library::expand(&sample.payload, sample.minor)?,
+            file: library::expand(&sample.payload, sample.minor, &sample.brands)?,
             path: String::new(),
+            shown: String::new(),
         };
         case.write(&sample.name)?;
         Ok(case)
@@ -43,6 +46,7 @@ impl<'a> Case<'a> {
     fn write(&mut self, name: &str) -> Result<(), String> {
         let path = Path::new(FOLDER).join(format!("{name}.heif"));
         self.path = path.display().to_string();
+        self.shown = format!("target/readers/{name}.heif");
         fs::create_dir_all(FOLDER)
             .and_then(|()| fs::write(&path, &self.file))
             .map_err(|error| format!("{}: {error}", self.path))

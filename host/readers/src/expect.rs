@@ -1,6 +1,6 @@
 //! Facts that several tools tell, as the model has them.
 
-use crate::facts::{Facts, list, print};
+use crate::facts::{Facts, fingerprint, list};
 use crate::model::{Code, Item, Model, Property};
 
 pub fn code(code: &Code) -> String {
@@ -28,7 +28,7 @@ pub fn content_types(model: &Model, facts: &mut Facts) {
 /// The bytes that lie where an item's location says.
 pub fn item_bytes(model: &Model, facts: &mut Facts) {
     for item in &model.items {
-        facts.say(format!("item {} bytes", item.id), print(&item.bytes));
+        facts.say(format!("item {} bytes", item.id), fingerprint(&item.bytes));
     }
 }
 
@@ -61,7 +61,7 @@ pub fn property_boxes(model: &Model, facts: &mut Facts) {
 /// Type and contents of each property box.
 pub fn property_bodies(model: &Model, facts: &mut Facts) {
     for (i, property) in model.properties.iter().enumerate() {
-        let value = format!("{} {}", code(&property.kind), print(&property.body));
+        let value = format!("{} {}", code(&property.kind), fingerprint(&property.body));
         facts.say(property_name(i), value.trim_end());
     }
 }

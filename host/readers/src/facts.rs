@@ -86,7 +86,7 @@ impl Facts {
 }
 
 /// Bytes as a word: themselves where they are few, else their number and a sum over them.
-pub fn print(bytes: &[u8]) -> String {
+pub fn fingerprint(bytes: &[u8]) -> String {
     if bytes.len() <= 8 {
         let digits: Vec<String> = bytes.iter().map(|b| format!("{b:02X}")).collect();
         return digits.join(" ");
@@ -97,12 +97,12 @@ pub fn print(bytes: &[u8]) -> String {
 }
 
 /// The bytes of a file that a tool points at.
-pub fn print_part(file: &[u8], start: usize, length: usize) -> String {
+pub fn fingerprint_at(file: &[u8], start: usize, length: usize) -> String {
     match start
         .checked_add(length)
         .and_then(|end| file.get(start..end))
     {
-        Some(part) => print(part),
+        Some(part) => fingerprint(part),
         None => format!("{length} bytes at {start}, outside the file"),
     }
 }

@@ -14,9 +14,9 @@ pub fn read(payload: &[u8]) -> Result<[u8; RECORD], String> {
     }
 }
 
-/// The equivalent file of a payload that comes under 'mif3' and a minor version.
-pub fn expand(payload: &[u8], minor: u32) -> Result<Vec<u8>, String> {
-    let brands = MAJOR.to_be_bytes();
+/// The equivalent file of a payload that comes under 'mif3', a minor version and brands.
+pub fn expand(payload: &[u8], minor: u32, brands: &[[u8; 4]]) -> Result<Vec<u8>, String> {
+    let brands = brands.concat();
     let needed = raw::expand(payload, MAJOR, minor, &brands, &mut []);
     if needed >> 32 != 16 {
         return Err(format!("expanding answers {needed:#X}"));

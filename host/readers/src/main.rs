@@ -125,7 +125,7 @@ fn missing_finding(
         None => Ok(()),
         Some(finding) => Err(format!(
             "{}: {}: this finding no longer occurs: {}",
-            case.path, tool.name, finding.why
+            case.shown, tool.name, finding.why
         )),
     }
 }
@@ -133,7 +133,7 @@ fn missing_finding(
 fn describe(tool: &Tool, case: &Case, difference: &Difference) -> String {
     format!(
         "{}: {}: {}\n  expected: {}\n  reported: {}",
-        case.path,
+        case.shown,
         tool.name,
         difference.fact,
         or_nothing(&difference.expected),
@@ -181,7 +181,7 @@ fn break_all(samples: &[Sample]) -> Result<(), String> {
             let found = comparison(tool, &case)?;
             let difference = unlisted(tool, &case, &found);
             let difference =
-                difference.ok_or(format!("{}: {} sees nothing", case.path, tool.name))?;
+                difference.ok_or(format!("{}: {} sees nothing", case.shown, tool.name))?;
             seen.push(format!("{} ({})", tool.name, difference.fact));
         }
         println!("wrong {}: seen by {}", edit.name, seen.join(", "));

@@ -1,5 +1,5 @@
-//! What a file has to hold by its record: items, references, properties. It is put together from
-//! the record alone, as ISO/IEC 23008-12 Amd 2, O.4 says.
+//! What a file has to hold by its record and its original file type: items, references, properties,
+//! brands, after ISO/IEC 23008-12 Amd 2, O.2.1.2 and O.4.
 
 use crate::record::{Bodies, Chroma, Format, Record};
 
@@ -65,7 +65,7 @@ const TURNS: [(Option<u8>, Option<u8>); 8] = [
 ];
 
 impl Model {
-    pub fn new(record: &Record, minor: u32) -> Self {
+    pub fn new(record: &Record, minor: u32, original: &[Code]) -> Self {
         let properties = properties(record);
         let links = links(record)
             .into_iter()
@@ -74,7 +74,7 @@ impl Model {
         let has_gain_map = record.gain_map().is_some();
         Model {
             major: major(minor),
-            brands: brands(has_gain_map),
+            brands: brands(original, minor, has_gain_map),
             items: items(record),
             references: references(record),
             properties,
@@ -103,10 +103,18 @@ fn major(minor: u32) -> Code {
     }
 }
 
-fn brands(has_gain_map: bool) -> Vec<Code> {
-    let mut brands = vec![*b"mif3", *b"mif1"];
-    if has_gain_map {
-        brands.push(*b"tmap");
+/// The original brands, and those that are added where they are missing.
+fn brands(original: &[Code], minor: u32, has_gain_map: bool) -> Vec<Code> {
+    let added = [
+        (*b"mif3", minor != 0),
+        (*b"mif1", true),
+        (*b"tmap", has_gain_map),
+    ];
+    let mut brands = original.to_vec();
+    for (brand, is_due) in added {
+        if is_due && !brands.contains(&brand) {
+            brands.push(brand);
+        }
     }
     brands
 }

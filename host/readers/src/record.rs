@@ -23,7 +23,7 @@ pub struct Chroma {
 /// clli, mdcv, cclv, amve, reve, ndwt.
 pub type Bodies = [Option<Vec<u8>>; 6];
 
-/// Where a picture's fields stand in the record, which has two such groups.
+/// A gain map and the tone-mapped picture that it makes.
 pub struct GainMap<'a> {
     pub width: u32,
     pub height: u32,

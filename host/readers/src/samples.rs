@@ -3,12 +3,13 @@
 use crate::pictures::{self, Coded};
 use plan::{Alpha, Chroma, Depth, GainMap, Hdr, NO_BODIES, Plan};
 
-/// A payload, and the original file type it comes with: major brand 'mif3', a minor version, and the
-/// brand 'mif3'.
+/// A payload, and the original file type it comes with: major brand 'mif3', a minor version, and a
+/// list of brands.
 pub struct Sample {
     pub name: String,
     pub payload: Vec<u8>,
     pub minor: u32,
+    pub brands: Vec<[u8; 4]>,
     /// Whether the main data is a picture.
     pub decodable: bool,
 }
@@ -18,6 +19,7 @@ pub struct Sample {
 struct Draft {
     name: String,
     minor: [u8; 4],
+    brands: Vec<[u8; 4]>,
     decodable: bool,
     plan: Plan,
     main: Coded,
@@ -48,7 +50,7 @@ fn metadata() -> Vec<u8> {
 }
 
 pub fn all() -> Vec<Sample> {
-    let mut drafts = vec![smallest(), av1("plain", pictures::AV1_420, 1)];
+    let mut drafts = vec![smallest(), plain("plain")];
     drafts.extend((2..=8).map(turned));
     drafts.extend(colours());
     drafts.extend(texts());
@@ -83,6 +85,7 @@ fn av1(name: &str, main: Coded, subsampling: u32) -> Draft {
     Draft {
         name: name.to_string(),
         minor: *b"avif",
+        brands: vec![*b"mif3"],
         decodable: main.data.len() > 1,
         plan,
         main,
@@ -184,14 +187,14 @@ fn texts() -> Vec<Draft> {
 
 fn alphas() -> Vec<Draft> {
     let mut own = plain("alpha");
-    own.set_alpha(pictures::AV1_400, false);
+    own.set_alpha(pictures::AV1_ALPHA, false);
     let mut premultiplied = plain("alpha-premultiplied");
-    premultiplied.set_alpha(pictures::AV1_400, true);
+    premultiplied.set_alpha(pictures::AV1_ALPHA, true);
     // The main picture is grey, so that its configuration serves the alpha picture too.
     let mut shared = av1("alpha-shared-configuration", pictures::AV1_400, 0);
     let without = Coded {
         config: &[],
-        ..pictures::AV1_400
+        ..pictures::AV1_ALPHA
     };
     shared.set_alpha(without, false);
     shared.plan.orientation = 7;
@@ -220,9 +223,10 @@ fn gain_maps() -> Vec<Draft> {
 /// Every chunk there can be.
 fn everything() -> Draft {
     let mut draft = plain("everything");
+    draft.brands = vec![*b"mif3", *b"avif", *b"miaf"];
     draft.plan.orientation = 6;
     draft.plan.cicp = Some([9, 16, 9]);
-    draft.set_alpha(pictures::AV1_400, true);
+    draft.set_alpha(pictures::AV1_ALPHA, true);
     draft.set_gain_map(pictures::AV1_SMALL);
     draft.plan.hdr.as_mut().expect("it was set").bodies = bodies();
     draft.icc = Some(pictures::icc("Pool"));
@@ -235,12 +239,14 @@ fn everything() -> Draft {
 fn other_codecs() -> Vec<Draft> {
     let mut hevc = av1("hevc", pictures::HEVC, 1);
     hevc.minor = *b"heic";
+    hevc.brands = Vec::new();
     hevc.plan.types = Some(HVC);
     (hevc.plan.width, hevc.plan.height) = (63, 63);
     let mut full = hevc.clone();
     full.name = "hevc-alpha-exif-xmp".to_string();
+    full.brands = vec![*b"mif1", *b"heic"];
     full.plan.orientation = 2;
-    full.set_alpha(pictures::HEVC, false);
+    full.set_alpha(pictures::HEVC_ALPHA, false);
     full.exif = Some(pictures::exif());
     full.xmp = Some(pictures::xmp());
     let mut jpeg = av1("jpeg", pictures::JPEG, 1);
@@ -310,6 +316,7 @@ impl Draft {
             name: self.name,
             payload,
             minor: u32::from_be_bytes(self.minor),
+            brands: self.brands,
             decodable: self.decodable,
         }
     }

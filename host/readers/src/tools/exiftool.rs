@@ -3,7 +3,7 @@
 use super::{Tool, cut, every_file, number, run};
 use crate::case::Case;
 use crate::expect;
-use crate::facts::{Facts, list, print, print_part};
+use crate::facts::{Facts, fingerprint, fingerprint_at, list};
 use crate::model::{Code, MAIN, Model};
 use crate::pictures;
 
@@ -147,7 +147,7 @@ fn tell_structure(text: &str, case: &Case, facts: &mut Facts) -> Result<(), Stri
         }
     }
     for (number, kind, body) in properties(text) {
-        let value = format!("{kind} {}", print(&body));
+        let value = format!("{kind} {}", fingerprint(&body));
         facts.say(format!("property {number}"), value.trim_end());
     }
     Ok(())
@@ -166,7 +166,7 @@ fn tell_item(rest: &str, kind: &str, case: &Case, facts: &mut Facts) -> Result<(
         facts.say(format!("item {id} content type"), content.trim());
     } else if let Some((id, place)) = cut(rest, ": const_meth=0 base=0x0 offset=") {
         let (start, length) = cut(place, " len=").ok_or(format!("no length: {place}"))?;
-        let bytes = print_part(&case.file, number(start)?, number(length)?);
+        let bytes = fingerprint_at(&case.file, number(start)?, number(length)?);
         facts.say(format!("item {id} bytes"), bytes);
     }
     Ok(())

@@ -3,7 +3,7 @@
 use super::{Tool, cut, every_file, number, run};
 use crate::case::Case;
 use crate::expect::{self, code};
-use crate::facts::{Facts, print_part};
+use crate::facts::{Facts, fingerprint_at};
 use crate::pictures;
 
 pub const TOOL: Tool = Tool {
@@ -84,7 +84,7 @@ fn tell_structure(text: &str, case: &Case, facts: &mut Facts) -> Result<(), Stri
             line.split('|').map(str::trim).collect::<Vec<_>>()[..]
         {
             let (start, length) = cut(place, ",").ok_or(format!("no place: {place}"))?;
-            let bytes = print_part(&case.file, number(start)?, number(length)?);
+            let bytes = fingerprint_at(&case.file, number(start)?, number(length)?);
             facts.say(format!("item {id} bytes"), bytes);
         }
     }

@@ -4,7 +4,7 @@
 use super::{Tool, cut, number, run};
 use crate::case::Case;
 use crate::expect;
-use crate::facts::{Facts, print, print_part};
+use crate::facts::{Facts, fingerprint, fingerprint_at};
 use crate::model::MAIN;
 
 pub const TOOL: Tool = Tool {
@@ -27,7 +27,7 @@ fn expected(case: &Case) -> Facts {
     facts.say("major_brand", expect::code(&model.major));
     let brands: Vec<String> = model.brands.iter().map(expect::code).collect();
     facts.say("compatible_brands", brands.concat());
-    facts.say("packet", print(case.record.main_data()));
+    facts.say("packet", fingerprint(case.record.main_data()));
     facts
 }
 
@@ -63,7 +63,7 @@ fn reported(case: &Case) -> Result<Facts, String> {
         }
     }
     if let [Some(start), Some(length)] = packet {
-        facts.say("packet", print_part(&case.file, start, length));
+        facts.say("packet", fingerprint_at(&case.file, start, length));
     }
     Ok(facts)
 }

@@ -3,7 +3,7 @@
 use super::{Tool, cut, every_file, number, run};
 use crate::case::Case;
 use crate::expect;
-use crate::facts::{Facts, list, print_part};
+use crate::facts::{Facts, fingerprint_at, list};
 use crate::model::{GROUP, Model, Property};
 
 pub const TOOL: Tool = Tool {
@@ -251,7 +251,7 @@ fn tell_locations(dumped: &Dumped, case: &Case, facts: &mut Facts) -> Result<(),
 fn extents(value: &str, base: usize, case: &Case) -> Result<String, String> {
     let one = |extent: &str| {
         let (start, length) = cut(extent, ",").ok_or(format!("no extent: {extent}"))?;
-        Ok(print_part(
+        Ok(fingerprint_at(
             &case.file,
             base + number(start)?,
             number(length)?,
