@@ -2,7 +2,6 @@
 //! on which answers are compared.
 
 pub mod answer;
-pub mod bits;
 pub mod box_cases;
 pub mod boxes;
 pub mod checking;
@@ -12,9 +11,10 @@ pub mod file_types;
 pub mod hex;
 pub mod outlining;
 pub mod payloads;
-pub mod plan;
 pub mod random;
 pub mod reading;
 pub mod refusal;
 pub mod samples;
 pub mod walks;
+
+pub use plan;

@@ -1,7 +1,9 @@
 //! A payload's header by its stored fields, in their order. Sizes and dimensions are the stored
 //! numbers: where a field stores one less, so do these.
 
-use crate::bits::BitString;
+pub mod bits;
+
+use bits::BitString;
 
 /// The greatest numbers of the short and the long forms.
 pub const DIMENSION: Limit = Limit(7, 15);
