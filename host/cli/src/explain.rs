@@ -136,7 +136,7 @@ impl Picture<'_> {
         let parts = flag.parts.iter().map(|kind| self.outline.part(*kind));
         let with_bits = parts.filter(|part| part.bits() > 0);
         let mut lines: Vec<String> = with_bits.map(place_of_part).collect();
-        lines.extend(flag.note.map(str::to_string));
+        lines.extend(flag.notes.iter().map(|note| note.to_string()));
         lines
     }
 

@@ -7,70 +7,88 @@ pub struct Flag {
     pub name: &'static str,
     pub set: bool,
     pub parts: &'static [PartKind],
-    pub note: Option<&'static str>,
+    pub notes: &'static [&'static str],
 }
 
-const SIZE: &str = "its size, among the chunk sizes";
+const fn flag(
+    name: &'static str,
+    set: bool,
+    parts: &'static [PartKind],
+    notes: &'static [&'static str],
+) -> Flag {
+    Flag {
+        name,
+        set,
+        parts,
+        notes,
+    }
+}
 
-pub fn flags(image: &MinimizedImage) -> [Flag; 9] {
+const ITS_SIZE: &[&str] = &["its size, among the chunk sizes"];
+
+/// The flags of the header's first part, in their order, and then those within the gain map.
+pub fn flags(image: &MinimizedImage) -> [Flag; 12] {
+    let gain_map = image.gain_map.as_ref();
     [
-        Flag {
-            name: "explicit codec types",
-            set: image.explicit_codec_types.is_some(),
-            parts: &[PartKind::ExplicitCodecTypes],
-            note: None,
-        },
-        Flag {
-            name: "float",
-            set: image.format.is_float(),
-            parts: &[PartKind::SampleFormat],
-            note: Some("in the form for floats, not for integers"),
-        },
-        Flag {
-            name: "full range",
-            set: image.full_range,
-            parts: &[],
-            note: Some("nothing: it says all by itself"),
-        },
-        Flag {
-            name: "alpha",
-            set: image.alpha,
-            parts: &[PartKind::AlphaPremultiplied],
-            note: Some("the sizes of its chunks, among the chunk sizes"),
-        },
-        Flag {
-            name: "explicit cicp",
-            set: image.explicit_cicp.is_some(),
-            parts: &[PartKind::ExplicitCicp],
-            note: None,
-        },
-        Flag {
-            name: "hdr",
-            set: image.hdr,
-            parts: &[
-                PartKind::GainMap,
-                PartKind::HdrBoxes,
-                PartKind::TmapHdrBoxes,
+        flag(
+            "explicit codec types",
+            image.explicit_codec_types.is_some(),
+            &[PartKind::ExplicitCodecTypes],
+            &[],
+        ),
+        flag(
+            "float",
+            image.format.is_float(),
+            &[PartKind::SampleFormat],
+            &["in the form for floats, not for integers"],
+        ),
+        flag(
+            "full range",
+            image.full_range,
+            &[],
+            &["nothing: it says all by itself"],
+        ),
+        flag(
+            "alpha",
+            image.alpha,
+            &[PartKind::AlphaPremultiplied],
+            &["the sizes of its chunks, among the chunk sizes"],
+        ),
+        flag(
+            "explicit cicp",
+            image.explicit_cicp.is_some(),
+            &[PartKind::ExplicitCicp],
+            &[],
+        ),
+        flag(
+            "hdr",
+            image.hdr,
+            &[PartKind::GainMap, PartKind::HdrBoxes],
+            &[],
+        ),
+        flag("ICC", image.icc.is_some(), &[], ITS_SIZE),
+        flag("Exif", image.exif.is_some(), &[], ITS_SIZE),
+        flag("XMP", image.xmp.is_some(), &[], ITS_SIZE),
+        flag(
+            "gain map",
+            gain_map.is_some(),
+            &[PartKind::TmapHdrBoxes],
+            &[
+                "its fields, in the part 'gain map'",
+                "the sizes of its chunks, among the chunk sizes",
             ],
-            note: image.gain_map.map(|_| "the sizes of the gain map's chunks"),
-        },
-        Flag {
-            name: "ICC",
-            set: image.icc.is_some(),
-            parts: &[],
-            note: Some(SIZE),
-        },
-        Flag {
-            name: "Exif",
-            set: image.exif.is_some(),
-            parts: &[],
-            note: Some(SIZE),
-        },
-        Flag {
-            name: "XMP",
-            set: image.xmp.is_some(),
-            parts: &[],
-            note: Some(SIZE),
-        },
+        ),
+        flag(
+            "tone map ICC",
+            gain_map.is_some_and(|g| g.tmap_icc.is_some()),
+            &[],
+            ITS_SIZE,
+        ),
+        flag(
+            "tone map cicp",
+            gain_map.is_some_and(|g| g.tmap_cicp.is_some()),
+            &[],
+            &["its numbers, in the part 'gain map'"],
+        ),
     ]
 }

@@ -100,6 +100,9 @@ fn flags_that_are_set() {
         set("types", TYPED),
         ["explicit codec types set explicit codec types: 64 bits, from bit 32"]
     );
+    let hdr = b"\x01\0\0\0\0\0\0\0\xAA";
+    assert_eq!(set("hdr", hdr), ["hdr set gain map: 1 bit, from bit 32"]);
+    assert!(explained("hdr", hdr).contains(" HDR boxes: 6 bits, from bit 33\n"));
     assert_eq!(
         set("float", &picture(1, 1, true, true)),
         [
