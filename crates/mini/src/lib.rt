@@ -5,7 +5,8 @@ ghost use Rattle.mini.specs.Cclv.{cclvMore};
 ghost use Rattle.mini.specs.Chunks.{isPresent};
 ghost use Rattle.mini.specs.Cicp.{tableCicp, cicpOf};
 ghost use Rattle.mini.specs.DisplayProfile.{meetsDisplayProfile};
-ghost use Rattle.mini.specs.Views.{isFloat};
+ghost use Rattle.mini.specs.Same.{chunkLen};
+ghost use Rattle.mini.specs.Views.{isFloat, hasTmapCicp};
 
 pub enum SampleFormat {
     Integer { bits: u8 },
@@ -252,6 +253,32 @@ impl Chunk {
         match self {
             Chunk::Absent => false,
             Chunk::Present { at: _, len: _ } => true,
+        }
+    }
+
+    // 0 where it is absent.
+    pub fn len(self) -> usize
+        ensures { λ r. ⌜ r ≡ chunkLen self ⌝ }
+    {
+        match self {
+            Chunk::Absent => 0,
+            Chunk::Present { at: _, len } => len,
+        }
+    }
+}
+
+impl TmapCicp {
+    pub fn is_present(self) -> bool
+        ensures { λ r. ⌜ r ≡ hasTmapCicp self ⌝ }
+    {
+        match self {
+            TmapCicp::Absent => false,
+            TmapCicp::Present {
+                primaries: _,
+                transfer: _,
+                matrix: _,
+                full_range: _,
+            } => true,
         }
     }
 }
