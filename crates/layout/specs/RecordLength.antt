@@ -23,7 +23,7 @@ use Rattle.mini.specs.declared.TmapCicp.{TmapCicp}
 use Rattle.mini.specs.declared.TmapCicp.the-variants as tmap-is
 use Rattle.layout.specs.RecordBytes.{flagBytes, codecTypesBytes, formatBytes, chromaBytes, colourBytes, cicpBytes, tmapCicpBytes, chunkBytes, spanBytes, hdrFlagBytes, hdrBodyBytes, hdrBoxesBytes, hdrBoxesBytesIf, gainMapPictureBytes, gainMapBytes, gainMapBytesIf, pictureBytes, colourAndAlphaBytes, itemBytes, recordBytes}
 
-length-flag : (on : Bool) → length (flagBytes on) ≡ 1
+pub length-flag : (on : Bool) → length (flagBytes on) ≡ 1
 length-flag true = refl
 length-flag false = refl
 
@@ -53,7 +53,7 @@ length-chunk : (c : Chunk) → length (chunkBytes c) ≡ 17
 length-chunk chunk-is.Absent = refl
 length-chunk (chunk-is.Present at len) = simp (length-append, length-be)
 
-length-span : (s : Span) → length (spanBytes s) ≡ 16
+pub length-span : (s : Span) → length (spanBytes s) ≡ 16
 unfolding spanBytes
 length-span s = simp (length-append, length-be)
 

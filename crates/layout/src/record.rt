@@ -21,7 +21,7 @@ use octets::put_u32;
 use octets::put_u64;
 use octets::put_zeros;
 
-fn put_flag(out: &mut [u8], at: usize, on: bool) -> usize
+pub fn put_flag(out: &mut [u8], at: usize, on: bool) -> usize
     requires { ⌜ at + 1 ≤ length (now out) ⌝ }
     ensures { λ r. ⌜ Wrote (now (out .entry)) at 1 (flagBytes on) (now (out .exit)) r ⌝ }
 {
@@ -129,7 +129,7 @@ pub fn put_chunk(out: &mut [u8], at: usize, c: Chunk) -> usize
     put_u64(out, b, len as u64)
 }
 
-fn put_span(out: &mut [u8], at: usize, s: Span) -> usize
+pub fn put_span(out: &mut [u8], at: usize, s: Span) -> usize
     requires { ⌜ at + 16 ≤ length (now out) ⌝ }
     ensures { λ r. ⌜ Wrote (now (out .entry)) at 16 (spanBytes s) (now (out .exit)) r ⌝ }
 {
