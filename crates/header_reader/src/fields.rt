@@ -203,7 +203,7 @@ pub fn read_format(b: Bits, payload: &[u8], float: bool) -> FormatRead
     }
 }
 
-fn read_cicp(b: Bits, payload: &[u8], on: bool) -> CicpRead
+pub fn read_cicp(b: Bits, payload: &[u8], on: bool) -> CicpRead
     ensures { λ r. ⌜ Run (explicitCicp on) (now (payload .entry)) (state b) (r .value) (state (r .next)) ⌝ }
 {
     if on {
@@ -229,7 +229,7 @@ fn read_cicp(b: Bits, payload: &[u8], on: bool) -> CicpRead
     }
 }
 
-fn read_types(b: Bits, payload: &[u8], on: bool) -> TypesRead
+pub fn read_types(b: Bits, payload: &[u8], on: bool) -> TypesRead
     ensures { λ r. ⌜ Run (explicitCodecTypes on) (now (payload .entry)) (state b) (r .value) (state (r .next)) ⌝ }
 {
     if on {

@@ -139,3 +139,14 @@ pub fn read_gain_map_header(b: Bits, payload: &[u8], d: Dimensions) -> GainMapRe
         next,
     }
 }
+
+pub fn read_gain_map_header_if(b: Bits, payload: &[u8], hdr: bool, d: Dimensions) -> GainMapRead
+    ensures { λ r. ⌜ Run (gainMapHeader hdr d) (now (payload .entry)) (state b) (r .value) (state (r .next)) ⌝ }
+{
+    if hdr {
+        read_gain_map_header(b, payload, d)
+    } else {
+        let value = crate::blank::no_gain_map();
+        GainMapRead { value, next: b }
+    }
+}

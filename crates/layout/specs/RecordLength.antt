@@ -49,7 +49,7 @@ unfolding colourBytes
 length-tmap tmap-is.Absent = refl
 length-tmap (tmap-is.Present primaries transfer matrix full) = simp (length-append, length-flag)
 
-length-chunk : (c : Chunk) → length (chunkBytes c) ≡ 17
+pub length-chunk : (c : Chunk) → length (chunkBytes c) ≡ 17
 length-chunk chunk-is.Absent = refl
 length-chunk (chunk-is.Present at len) = simp (length-append, length-be)
 
