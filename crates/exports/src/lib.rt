@@ -1,5 +1,5 @@
 // The functions that C and Rust programs call, on numbers and byte slices. docs/ABI.md has their numbers and layouts.
-mod answer;
+pub mod answer;
 
 ghost use mathlib.Core.Path.{_≡_};
 ghost use Rattle.boxes.specs.Find.{findBox};
@@ -12,7 +12,6 @@ ghost use Rattle.layout.specs.CheckBytes.{checkBytes};
 ghost use Rattle.layout.specs.FileTypeBytes.{fileTypeBytes};
 ghost use Rattle.layout.specs.HeaderBytes.{headerBytes};
 ghost use Rattle.layout.specs.RecordBytes.{recordBytes};
-ghost use Rattle.outline.specs.OutlineBytes.{outlineBytes};
 ghost use Rattle.writer.specs.ToBox.{boxOf};
 use boxes::HeaderRead;
 use boxes::find::find_box;
@@ -24,7 +23,6 @@ use layout::file_type::put_file_type;
 use layout::header::put_header;
 use layout::record::put_record;
 use layout::record::record_len;
-use outline::put_outline;
 use reader::parse;
 use rewriter::rewrite;
 
@@ -144,22 +142,4 @@ pub extern "C" fn bustardcase_check(payload: &[u8], out: &mut [u8]) -> u64
     }
     put_check(out, 0, image);
     6
-}
-
-// Tells where the parts of a payload lie, for every payload.
-#[no_mangle]
-pub extern "C" fn bustardcase_outline(payload: &[u8], out: &mut [u8]) -> u64
-    ensures { λ r. ⌜ Answered (readMini (now (payload .entry)) .refusal) (outlineBytes (now (payload .entry))) (now (out .entry)) (now (out .exit)) r ⌝ }
-{
-    let reading = parse(payload);
-    let refusal = reading.refusal;
-    let image = reading.image;
-    if refusal != 0 {
-        return answer::refused(refusal);
-    }
-    if out.len() < 500 {
-        return answer::too_short(500);
-    }
-    put_outline(out, 0, payload, image);
-    500
 }

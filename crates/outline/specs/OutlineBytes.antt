@@ -8,7 +8,7 @@ use Rattle.octets.specs.BigEndian.{be}
 use Rattle.octets.specs.BigEndianLaws.{length-be}
 use Rattle.layout.specs.RecordBytes.{chunkBytes}
 use Rattle.layout.specs.RecordLength.{length-chunk}
-use Rattle.mini.specs.Cut.{joined}
+use Rattle.mini.specs.Cut.{joined, joined-append}
 use Rattle.mini.specs.Read.{readMini}
 use Rattle.mini.specs.declared.Chunk.{Chunk}
 use Rattle.mini.specs.declared.MinimizedImage.{MinimizedImage}
@@ -33,10 +33,6 @@ unfoldable pub outlineBytes : List ℕ → List ℕ
 outlineBytes s = outlineOf s (readMini s .image)
 
 -- ---- two lists one after the other
-joined-append : (l m : List (List ℕ)) → joined (l ++ m) ≡ joined l ++ joined m
-joined-append [] m = refl
-joined-append (x ∷ l) m = ap (λ (y : List ℕ). x ++ y) (joined-append l m) ∙ sym (append-assoc x (joined l) (joined m))
-
 pub places-append : (l m : List ℕ) → placeBytes l ++ placeBytes m ≡ placeBytes (l ++ m)
 unfolding placeBytes
 places-append l m = sym (ap joined (map-append (be 8) l m) ∙ joined-append (map (be 8) l) (map (be 8) m))

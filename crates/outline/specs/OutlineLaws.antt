@@ -1,5 +1,5 @@
--- What an outline tells of a payload that is accepted: the parts of the header end where the main configuration begins, the chunks have the sizes
--- given and lie one after another in the stored order, and the bytes counted as ignored are not needed. Assumes nothing.
+-- What an outline tells of a payload that is accepted: the parts of the header follow one another and end where the main configuration begins, the chunks
+-- have the sizes given and lie one after another in the stored order, and the bytes counted as ignored are not needed. Assumes nothing.
 use mathlib.Core.Path.{_≡_, refl, sym, ap, _∙_, subst}
 use mathlib.Core.Bool.{Bool, true, false}
 use mathlib.Core.List.{List, [], _∷_, _++_, map}
@@ -11,7 +11,7 @@ use lib.Seq.{take-append-le, length-take-le}
 use borrow.Author.Tests.{eqb-true, eqb-false}
 use Rattle.bits.specs.Bit.{bitsOf, bitsOf-append, length-bitsOf, length-bitsN}
 use Rattle.bits.specs.State.{State, clean}
-use Rattle.bits.specs.Format.{_>>=_, view, fieldIf, test-passed}
+use Rattle.bits.specs.Format.{Format, _>>=_, view, fieldIf, test-passed}
 use Rattle.mini.specs.Chunks.{givenSizes, storedSizes, storedPlaces, endWithin, chunkIf, spanIf}
 use Rattle.mini.specs.Cut.{sum, within-of, of-within}
 use Rattle.mini.specs.HeaderLength.{header-end}
@@ -29,7 +29,7 @@ use Rattle.mini.specs.declared.Header.{Header}
 use Rattle.mini.specs.declared.MinimizedImage.{MinimizedImage}
 use Rattle.mini.specs.declared.Reading.{Reading}
 use Rattle.outline.specs.Chunks.{givenOrder, storedOrder, spanChunk, givenChunks, chunkOf, chunksEnd, ignored}
-use Rattle.outline.specs.Ends.{_next_, headerParts, partEnds, whole-header}
+use Rattle.outline.specs.Ends.{Parts, _next_, done, headerParts, partEnds, whole-header}
 
 -- ---- the ends of the parts
 -- the eleventh part ends where the header does
@@ -41,25 +41,75 @@ none-met : (n : ℕ) (t : Bool) (i : MinimizedImage) → eqb n 0 ≡ t → readi
 none-met n true i e z = (eqb-true n 0 e, refl)
 none-met n false i e z = absurd (eqb-false n 0 e z)
 
--- and the twelfth where the main configuration begins
-pub main-begins : (s : List ℕ) → readMini s .refusal ≡ 0 → getD (partEnds s) 11 0 ≡ 8 * readMini s .image .«main_codec_config» .at
-unfolding partEnds headerParts _next_ readMini readChunks testChunks pastTrailingBits trailingBits bitsToBoundary imageOf storedPlaces view
-main-begins s z =
+-- what an accepted payload tells of the header's end, the place after the trailing bits, and the record
+record AtChunks (s : List ℕ) : Type 0 where
+  accepts : header .parse s (clean 0) .1 .refusal ≡ 0
+  moved : pastTrailingBits s (header .parse s (clean 0) .1) .at ≡ header .parse s (clean 0) .1 .at + (8 - header .parse s (clean 0) .1 .at % 8) % 8
+  image : readMini s .image ≡ imageOf (header .parse s (clean 0) .0) (pastTrailingBits s (header .parse s (clean 0) .1) .at / 8)
+
+at-chunks : (s : List ℕ) → readMini s .refusal ≡ 0 → AtChunks s
+unfolding readMini readChunks testChunks pastTrailingBits trailingBits bitsToBoundary view
+at-chunks s z =
     let r = header .parse s (clean 0) in
     let b = pastTrailingBits s (r .1) in
     let n = (8 - r .1 .at % 8) % 8 in
     let w = none-met (testChunks s (r .0 .sizes) b .refusal) _ _ refl z in
     let c = test-passed 9 tt b (endWithin (length s) (b .at / 8) (storedSizes (r .0 .sizes))) (w .0) in
-    let m = trailingBits n .inv s (r .1) (c .0) .moved in
-    let e : b .at ≡ 8 * (b .at / 8) = omega (arith, m, length-bitsN n 0) in
+    let g = trailingBits n .inv s (r .1) (c .0) in
+    record { accepts = g .was; moved = omega (arith, g .moved, length-bitsN n 0); image = w .1 }
+
+-- and the twelfth where the main configuration begins
+pub main-begins : (s : List ℕ) → readMini s .refusal ≡ 0 → getD (partEnds s) 11 0 ≡ 8 * readMini s .image .«main_codec_config» .at
+unfolding partEnds headerParts _next_ imageOf storedPlaces
+main-begins s z =
+    let a = at-chunks s z in
+    let p = pastTrailingBits s (header .parse s (clean 0) .1) .at in
+    let e : p ≡ 8 * (p / 8) = omega (arith, a .moved) in
     ap (λ (x : State). pastTrailingBits s x .at) (whole-header s (clean 0))
     ∙ e
-    ∙ ap (λ (i : MinimizedImage). 8 * i .«main_codec_config» .at) (sym (w .1))
+    ∙ ap (λ (i : MinimizedImage). 8 * i .«main_codec_config» .at) (sym (a .image))
 
--- which is within 2,014 bits
-pub last-end : (s : List ℕ) → getD (partEnds s) 11 0 ≤ 2014
-unfolding partEnds headerParts _next_
-last-end s = subst (λ (b : State). pastTrailingBits s b .at ≤ 2014) (sym (whole-header s (clean 0))) (header-end s)
+-- ---- no part ends before the one that it follows, and the last ends within 2,014 bits
+unfoldable pub Rising : ℕ → List ℕ → ℕ → Type 0
+Rising from [] to = from ≤ to
+Rising from (end ∷ ends) to = (from ≤ end) × Rising end ends to
+
+abbrev Rises : Parts → Type 0
+Rises k = (s : List ℕ) (b : State) → k s b .1 .refusal ≡ 0 → (b .refusal ≡ 0) × Rising (b .at) (k s b .0) (k s b .1 .at)
+
+rises-done : Rises done
+unfolding Rising
+rises-done s b z = (z, omega arith)
+
+rises-next : {A : Type 0} (p : Format A) (k : A → Parts) → ((a : A) → Rises (k a)) → Rises (p next k)
+unfolding Rising _next_
+rises-next p k e s b z =
+    let r = p .parse s b in
+    let u = e (r .0) s (r .1) z in
+    let g = p .inv s b (u .0) in
+    let m : b .at ≤ r .1 .at = omega (arith, g .moved) in
+    (g .was, (m, u .1))
+
+header-rises : Rises headerParts
+unfolding headerParts
+header-rises =
+    rises-next _ _ λ f. rises-next _ _ λ d. rises-next _ _ λ c. rises-next _ _ λ o. rises-next _ _ λ p. rises-next _ _ λ i. rises-next _ _ λ t. rises-next _ _ λ g. rises-next _ _ λ h. rises-next _ _ λ m. rises-next _ _ λ z. rises-done
+
+rising-last : (from : ℕ) (ends : List ℕ) (to last most : ℕ) → Rising from ends to → to ≤ last → last ≤ most → Rising from (ends ++ (last ∷ [])) most
+unfolding Rising
+rising-last from [] to last most r a b = (omega arith, b)
+rising-last from (end ∷ ends) to last most r a b = (r .0, rising-last end ends to last most (r .1) a b)
+
+pub ends-rise : (s : List ℕ) → readMini s .refusal ≡ 0 → Rising 0 (partEnds s) 2014
+unfolding partEnds
+ends-rise s z =
+    let a = at-chunks s z in
+    let e = whole-header s (clean 0) in
+    let u = header-rises s (clean 0) (ap (λ (b : State). b .refusal) e ∙ a .accepts) in
+    let m : header .parse s (clean 0) .1 .at ≤ pastTrailingBits s (header .parse s (clean 0) .1) .at = omega (arith, a .moved) in
+    rising-last 0 (headerParts s (clean 0) .0) (headerParts s (clean 0) .1 .at) (pastTrailingBits s (headerParts s (clean 0) .1) .at) 2014 (u .1)
+    (subst (λ (b : State). b .at ≤ pastTrailingBits s b .at) (sym e) m)
+    (subst (λ (b : State). pastTrailingBits s b .at ≤ 2014) (sym e) (header-end s))
 
 -- ---- the chunks of a header's record
 -- a span whose owner is absent has size 0

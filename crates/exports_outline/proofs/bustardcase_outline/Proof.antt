@@ -1,10 +1,10 @@
--- `exports::bustardcase_outline` meets its contract. Assumes nothing.
+-- `exports_outline::bustardcase_outline` meets its contract. Assumes nothing.
 use native.Mathlib.Omega.{arith}
 use Rattle.outline.specs.OutlineBytes.{outlineBytes, length-outline}
 use Rattle.exports.specs.AnswerLaws.{refuses, lacks-room, hands-out}
 use borrow.Author.Needs.{needs}
-use Rattle.exports.proofs.bustardcase_outline.Statement.{statement}
-use Rattle.exports.proofs.bustardcase_outline.Tie as tie
+use Rattle.exports_outline.proofs.bustardcase_outline.Statement.{statement}
+use Rattle.exports_outline.proofs.bustardcase_outline.Tie as tie
 
 returns : tie.Need-returns
 unfolding outlineBytes
