@@ -1,5 +1,5 @@
-/* Calls every function of the library once, and prints what comes back: the refusal and the length. At the
-   repository's root: cc -I include examples/every_function.c target/staticlib/libexports.a -o target/every && target/every */
+/* Calls every function of the library, and prints what comes back: the refusal and the length. At the repository's
+   root: cc -I include examples/every_function.c target/staticlib/libexports*.a -o target/every && target/every */
 #include <stdio.h>
 #include "bustardcase.h"
 

@@ -1,7 +1,8 @@
 /* Bustardcase: the low-overhead image format (ISO/IEC 23008-12 Amd 2, Annex O: the MinimizedImageBox, 'mini'), proved.
 
-   Link target/staticlib/libexports.a, which `rt staticlib exports` makes; it needs no other library. docs/ABI.md says
-   the same at more length, and examples/read.c is a program.
+   Link target/staticlib/libexports.a, which `rt staticlib exports` makes, and for bustardcase_outline also
+   target/staticlib/libexports_outline.a, which `rt staticlib exports_outline` makes; they need no other library. docs/ABI.md
+   says the same at more length, and examples/read.c is a program.
 
    A slice is passed as a pointer and a length. Outputs must not overlap inputs. Nothing is kept after a call, and
    nothing is allocated; the functions may be called from several threads.
@@ -118,7 +119,7 @@ uint64_t bustardcase_read(const uint8_t *payload, size_t payload_len, uint8_t *o
      5   1  the height is at most 1,080 */
 uint64_t bustardcase_check(const uint8_t *payload, size_t payload_len, uint8_t *out, size_t out_len);
 
-/* Where the parts of a payload lie. Refusals 5, 6, 7, 8, 9, 16. It writes 500 bytes:
+/* Where the parts of a payload lie (in libexports_outline.a). Refusals 5, 6, 7, 8, 9, 16. It writes 500 bytes:
 
      0  96  where each of the 12 parts of the header ends, in bits from the payload's start (8 each); each begins where
             the one before ends, the first at 0: flags (version, flags, subsampling, orientation); dimensions; chroma

@@ -196,11 +196,6 @@ module _ {o o' : List ℕ} {w w' : BitWriter} where
   unfolding view
   puts-renamed to from p h d e = record { fed = e .fed; ok = e .ok ∙ ap (λ (x : Bool). fits w && x) (sym (and-true _)) }
 
-  -- a test on the value
-  pub puts-ensure : {A : Type 0} {w'' : BitWriter} {a : A} (p : Format A) (f : A → Bool) (r : ℕ) (h : T (isReadingRefusal r)) → Puts p o w a o' w'
-      → Tested w' (f a) w'' → Puts (ensure p f r h) o w a o' w''
-  puts-ensure {a = a} p f r h e q = record { fed = fed-tested (e .fed) q; ok = and-test (fits w) (p .good a) (f a) (e .ok) (q .ok) refl }
-
   pub puts-exactly : (n v r : ℕ) (h : T (isReadingRefusal r)) → Puts (field n) o w v o' w' → Puts (exactly n v r h) o w tt o' w'
   unfolding view
   puts-exactly n v r h e =

@@ -100,14 +100,28 @@ module _ {A : Type 0} {s : List ℕ} {b c : State} {x : A} (p q : Format A) wher
   run-off false h e = e
 
 -- ---- sequence
-module _ {A B : Type 0} {s : List ℕ} {b c d : State} {x : A} {y : B} (p : Format A) (k : A → Format B) where
-  pub run-seq : Run p s b x c → Run (k x) s c y d → Run (p >>= k) s b (x, y) d
+module _ {A B : Type 0} {s : List ℕ} {b d : State} {x : A} {y : B} (p : Format A) (k : A → Format B) where
+  pub run-seq : {c : State} → Run p s b x c → Run (k x) s c y d → Run (p >>= k) s b (x, y) d
   unfolding _>>=_
   run-seq e f =
       record {
         eq =
             ap (λ (r : A × State). ((r .0, k (r .0) .parse s (r .1) .0), k (r .0) .parse s (r .1) .1)) (e .eq)
             ∙ ap (λ (q : B × State). ((x, q .0), q .1)) (f .eq);
+      }
+
+  -- and back: between them is the state that the first leaves
+  pub run-first : Run (p >>= k) s b (x, y) d → Run p s b x (p .parse s b .1)
+  unfolding _>>=_
+  run-first e = record { eq = ap (λ (r : (A × B) × State). (r .0 .0, p .parse s b .1)) (e .eq) }
+
+  pub run-second : Run (p >>= k) s b (x, y) d → Run (k x) s (p .parse s b .1) y d
+  unfolding _>>=_
+  run-second e =
+      record {
+        eq =
+            ap (λ (a : A). k a .parse s (p .parse s b .1)) (sym (ap (λ (r : (A × B) × State). r .0 .0) (e .eq)))
+            ∙ ap (λ (r : (A × B) × State). (r .0 .1, r .1)) (e .eq);
       }
 
 pub run-then : {A : Type 0} {s : List ℕ} {b c d : State} {x : A} (p : Format (Unit {0})) (q : Format A) → Run p s b tt c → Run q s c x d

@@ -4,3 +4,4 @@ pub mod Boxed
 pub mod ReadBack
 pub mod Walk
 pub mod WalkEnds
+pub mod Find

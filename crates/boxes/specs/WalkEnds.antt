@@ -1,13 +1,13 @@
 -- Walking misses nothing: each header that is read is followed by a later place within the bytes, so that allowing for more boxes than there
 -- are bytes finds no more of them. Of any bytes.
-use mathlib.Core.Path.{_≡_, refl, sym}
+use mathlib.Core.Path.{_≡_, refl, sym, _∙_}
 use mathlib.Core.Bool.{Bool, true, false, cond, _&&_}
 use mathlib.Core.List.{List, _∷_, []}
 use Prim.Native.Nat.{ℕ, zero, suc, _+_, _-_, _≤_}
 use native.Mathlib.Omega.{arith}
 use lib.Dec.{eqb, leb, ltb, lit≤}
 use lib.ListN.{length}
-use borrow.Author.Tests.{eqb-true, leb-true, ltb-false}
+use borrow.Author.Tests.{ne-eqb, eqb-true, leb-true, ltb-false}
 use Rattle.octets.specs.BigEndian.{num}
 use Rattle.boxes.specs.Header.{UUID, refused, found, userTypeAt, typedAt, sizedAt, headerAt}
 use Rattle.boxes.specs.Size.{bounded, largeSizeAt, sizeAt, InBuffer}
@@ -93,3 +93,17 @@ enough (suc n) (suc m) s at h k =
 pub walk-whole : (n : ℕ) (s : List ℕ) (at : ℕ) → length s ≤ n → walkUpTo n s at ≡ walk s at
 unfolding walk
 walk-whole n s at h = enough n (length s) s at (omega arith) (omega arith)
+
+-- ---- walking, one box at a time
+pub walk-on : (s : List ℕ) (at : ℕ) → headerAt s at .refusal ≡ 0 → walk s at ≡ headerAt s at .header ∷ walk s (after (headerAt s at .header))
+unfolding walk
+walk-on s at e =
+    let a = advances s at e in
+    let more : walkUpTo (suc (length s)) s at ≡ headerAt s at .header ∷ walkUpTo (length s) s (after (headerAt s at .header)) = rw e in
+    enough (length s) (suc (length s)) s at (omega arith) (omega arith) ∙ more
+
+pub walk-stops : (s : List ℕ) (at : ℕ) → (headerAt s at .refusal ≡ 0 → ⊥) → walk s at ≡ []
+unfolding walk
+walk-stops s at h =
+    let none : walkUpTo (suc (length s)) s at ≡ [] = rw (ne-eqb _ _ h) in
+    enough (length s) (suc (length s)) s at (omega arith) (omega arith) ∙ none

@@ -1,4 +1,6 @@
 // Boxes of the ISO base media file format (ISO/IEC 14496-12, 4.2): headers read and written. Nothing here knows of pictures.
+pub mod find;
+
 use octets::get_u32;
 use octets::get_u64;
 use octets::part;

@@ -27,7 +27,8 @@ use Rattle.expander.specs.EquivalentFile.{itemSet, itemBytes, dataLength
 use Rattle.expander.specs.Expands.{Expands, expands}
 use Rattle.expander.specs.FileLength.{length-metaBody, length-content, length-file, meta-most, file-most, file-narrow}
 use Rattle.expander.specs.LocationCounts.{locations-once, locations-hold}
-use Rattle.expander.specs.LocationsInFile.{META, ILOC, MDAT, metaIn, ilocIn, locationsIn, contentIn, lies, one, holders, EveryByte}
+use Rattle.slots.specs.Associations.{one}
+use Rattle.expander.specs.LocationsInFile.{META, ILOC, MDAT, metaIn, ilocIn, locationsIn, contentIn, lies, holders, EveryByte}
 use Rattle.expander.specs.Outcome.{refusalOf}
 use Rattle.expander.specs.Placed.{data-placed, lengths-are}
 use Rattle.boxes.specs.Walk.{Box, All, none, next, Plain, boxIf, joined, headerOf, headers, walk, payload, walked, box-found, body-found, all-append, all-if, all-plain, joined-append, joined-if}

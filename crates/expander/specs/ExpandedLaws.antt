@@ -21,6 +21,7 @@ use Rattle.mini.specs.declared.MinimizedImage.{MinimizedImage}
 use Rattle.slots.specs.Bounds.{cond-most}
 use Rattle.writer.specs.ToBox.{refused}
 use Rattle.writer.specs.declared.Written.{Written}
+use Rattle.mini.specs.RecordHeader.{T-true}
 use Rattle.expander.specs.EquivalentFile.{itemBytes, file}
 use Rattle.expander.specs.EveryByte.{every-byte}
 use Rattle.expander.specs.Expands.{expands}
@@ -29,17 +30,13 @@ use Rattle.expander.specs.LocationsInFile.{EveryByte}
 use Rattle.expander.specs.Outcome.{hasNativeAlpha, isUuid, refusalOf, expanded}
 
 -- ---- the record read from a payload, with that payload as its source
-is-on : (t : Bool) → T t → t ≡ true
-is-on true h = refl
-is-on false h = absurd h
-
 pub read-expands : (p brands : List ℕ) → readMini p .refusal ≡ 0 → allowed brands ≡ true
     → hasCodecTypes (readMini p .image .«explicit_codec_types») ≡ true → isUuid (readMini p .image .«explicit_codec_types») ≡ false
     → hasNativeAlpha (readMini p .image) ≡ false → refusalOf (readMini p .image) p brands ≡ 0
 unfolding refusalOf
 read-expands p brands z a t u n =
     let i = readMini p .image in
-    rw (is-on (wellPlaced i p) (read-placed p z), is-on (writable i) (read-writable p z), n, u, t, a)
+    rw (T-true (wellPlaced i p) (read-placed p z), T-true (writable i) (read-writable p z), n, u, t, a)
 
 -- ---- what comes back
 pub refusal-most : (i : MinimizedImage) (s brands : List ℕ) → refusalOf i s brands ≤ 15

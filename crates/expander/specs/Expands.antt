@@ -6,6 +6,7 @@ use mathlib.Core.List.{List}
 use Prim.Native.Nat.{ℕ, _<_}
 use native.Mathlib.Omega.{arith}
 use lib.Dec.{T, lit<}
+use borrow.Author.Tests.{not-false}
 use Rattle.ftyp.specs.FileType.{allowed}
 use Rattle.mini.specs.Same.{wellPlaced}
 use Rattle.mini.specs.Views.{hasCodecTypes}
@@ -30,10 +31,6 @@ holds : (t : Bool) → not t ≡ false → T t
 holds true e = tt
 holds false e = absurd (true≢false e)
 
-is-true : (t : Bool) → not t ≡ false → t ≡ true
-is-true true e = refl
-is-true false e = absurd (true≢false e)
-
 pub expands : (i : MinimizedImage) (s brands : List ℕ) → refusalOf i s brands ≡ 0 → Expands i s brands
 unfolding refusalOf
 expands i s brands e =
@@ -49,5 +46,5 @@ expands i s brands e =
       no-native-alpha = c .0;
       no-uuid = d .0;
       typed = holds (hasCodecTypes (i .«explicit_codec_types»)) (t .0);
-      brands-allowed = is-true (allowed brands) (f .0);
+      brands-allowed = not-false (allowed brands) (f .0);
     }

@@ -13,7 +13,8 @@ use Rattle.items.specs.ItemLocations.{Location, located, locations, dataLen}
 use Rattle.items.specs.OneLocation.{locationsOf, main-once, alpha-once, tone-map-once, gain-map-once, exif-once, xmp-once}
 use Rattle.items.specs.declared.DataLengths.{DataLengths}
 use Rattle.mini.specs.ItemKind.{MAIN, ALPHA, TMAP, GAIN-MAP, EXIF, XMP}
-use Rattle.expander.specs.LocationsInFile.{lies, one, holders}
+use Rattle.expander.specs.LocationsInFile.{lies, holders}
+use Rattle.slots.specs.Associations.{one}
 
 -- ---- the locations of a number
 one-if : (empty : Bool) (l : Location) → length (cond empty [] (l ∷ [])) ≡ cond empty 0 1

@@ -12,6 +12,7 @@ use Rattle.items.specs.ItemBytes.{ItemBytes, itemData, own, Leads}
 use Rattle.items.specs.ItemLocations.{Location, Every, ilocBody}
 use Rattle.items.specs.OneLocation.{locationsOf}
 use Rattle.items.specs.ReadLocations.{readLocations}
+use Rattle.slots.specs.Associations.{one}
 use Rattle.boxes.specs.Walk.{walk, find, payload}
 
 abbrev pub META : ℕ
@@ -43,9 +44,6 @@ contentIn f = find MDAT (walk f 0)
 -- byte p is one of the `len` bytes from `at` on
 abbrev pub lies : (p at len : ℕ) → Bool
 lies p at len = leb at p && ltb p (at + len)
-
-abbrev pub one : Bool → ℕ
-one t = cond t 1 0
 
 -- how many locations of a list hold byte p
 abbrev pub holders : ℕ → List Location → ℕ

@@ -5,7 +5,7 @@ use mathlib.Core.List.{List, [], _∷_, _++_}
 use Prim.Native.Nat.{ℕ, _+_, _≤_}
 use native.Mathlib.Omega.{arith}
 use lib.Dec.{T, leb→le}
-use lib.ListN.{length, length-append, length-take, length-drop}
+use lib.ListN.{length, length-append}
 use Rattle.bits.specs.Format.{and-split}
 use Rattle.items.specs.ItemBytes.{lengthsOf}
 use Rattle.items.specs.ItemGroup.{grpl-most}
@@ -21,6 +21,7 @@ use Rattle.mini.specs.declared.Chunk.the-variants as chunk-is
 use Rattle.mini.specs.declared.MinimizedImage.{MinimizedImage}
 use Rattle.mini.specs.declared.Span.{Span}
 use Rattle.slots.specs.Bounds.{iprp-most}
+use Rattle.slots.specs.LengthLaws.{length-span}
 use Rattle.slots.specs.Sound.{SpanPlaced, ChunkPlaced, Bounded, Sound, sound}
 use Rattle.expander.specs.EquivalentFile.{itemSet, itemBytes, dataLengths, metaBodyLen}
 
@@ -121,9 +122,6 @@ content-most i b =
     )
 
 -- ---- the items' bytes are as many as the record says
-length-span : (x : Span) (s : List ℕ) → SpanPlaced x s → length (spanBytes x s) ≡ x .len
-length-span x s h = simp (length-take, length-drop) (omega arith)
-
 length-chunk : (c : Chunk) (s : List ℕ) → ChunkPlaced c s → length (chunkBytes c s) ≡ chunkLen c
 length-chunk chunk-is.Absent s h = refl
 length-chunk (chunk-is.Present at len) s h = length-span (record { at = at; len = len }) s h

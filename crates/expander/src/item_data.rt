@@ -86,15 +86,6 @@ pub fn put_item_data(out: &mut [u8], image: MinimizedImage, source: &[u8]) -> us
     put_chunk(out, e, source, xmp)
 }
 
-fn chunk_len(c: Chunk) -> usize
-    ensures { λ r. ⌜ r ≡ chunkLen c ⌝ }
-{
-    match c {
-        Chunk::Absent => 0,
-        Chunk::Present { at: _, len } => len,
-    }
-}
-
 pub fn data_lengths(image: MinimizedImage) -> DataLengths
     requires { ⌜ DataBounded image ⌝ }
     ensures { λ r. ⌜ r ≡ dataLengths image ⌝ }
@@ -108,9 +99,9 @@ pub fn data_lengths(image: MinimizedImage) -> DataLengths
     let gain_map = len_if(on, coded.len);
     let main = image.main_data;
     let exif_chunk = image.exif;
-    let exif = chunk_len(exif_chunk);
+    let exif = exif_chunk.len();
     let xmp_chunk = image.xmp;
-    let xmp = chunk_len(xmp_chunk);
+    let xmp = xmp_chunk.len();
     DataLengths {
         alpha: alpha.len,
         tone_map,

@@ -117,10 +117,3 @@ fileType-most t s = omega (arith, added-most (t .«add_mif3»), added-most (t .�
 
 pub ftyp-most : (major minor : ℕ) (gain : Bool) (s : List ℕ) → ftypLen major minor gain s ≤ 28 + length s
 ftyp-most major minor gain s = fileType-most (fileType major minor gain s) s
-
--- what writing the equivalent file type leaves is the definition's box
-pub ftyp-wrote : (major minor : ℕ) (gain : Bool) (s : List ℕ) → allowed s ≡ true
-    → {t : FileType} {o o' : List ℕ} {a r : ℕ} → t ≡ fileType major minor gain s
-    → Wrote o a (fileTypeLen t s) (fileTypeBox t s) o' r
-    → Wrote o a (ftypLen major minor gain s) (ftyp major minor gain s) o' r
-ftyp-wrote major minor gain s h e w = recast (rw e at w) (ftyp-is major minor gain s (allowed-whole s h))

@@ -1,2 +1,3 @@
 pub mod FileType
 pub mod FileTypeLaws
+pub mod ReadFileType

@@ -1,4 +1,6 @@
 // The 'ftyp' of the equivalent file (ISO/IEC 23008-12, O.2.1.2): `equivalent_file_type` of mini.rs and `FileType::to_box` of ftyp.rs.
+pub mod read;
+
 use boxes::FourCc;
 use boxes::put_box_header;
 use octets::copy_in;
@@ -30,6 +32,16 @@ pub struct FileType {
     pub add_mif3: bool,
     pub add_mif1: bool,
     pub add_tmap: bool,
+}
+
+// What reading the body of an 'ftyp' gives: 0, the two numbers, and where in the body the compatible brands lie; or the number of the
+// refusal and zeros.
+pub struct FileTypeRead {
+    pub refusal: u8,
+    pub major_brand: FourCc,
+    pub minor_version: u32,
+    pub brands_at: usize,
+    pub brands_len: usize,
 }
 
 // Whether a brand list is allowed: refusal 15 does not apply.

@@ -7,7 +7,7 @@ ghost use Rattle.bit_writer.specs.Writer.{Puts};
 ghost use lib.ListN.{length};
 ghost use Rattle.mini.specs.declared.SampleFormat.the-variants.{Integer};
 ghost use Rattle.mini.specs.Syntax.{flags, dimensions, chroma, floatFormat, integerFormat, sampleFormat, explicitCicp, explicitCodecTypes, mainFormat, tmapCicp, gainMapDimension, gainMapFormat, gainMapHeader, cclv, cclvFor, hdrBoxes, chunkSizes, header};
-ghost use Rattle.mini.specs.Views.{bitsIn, isFormat, floatTo, floatCode, cicpFrom, hasCicp, codecTypesFrom, hasCodecTypes, tmapCicpFrom, hasTmapCicp};
+ghost use Rattle.mini.specs.Views.{bitsIn, isFormat, floatTo, floatCode, cicpFrom, hasCicp, codecTypesFrom, hasCodecTypes, tmapCicpFrom};
 use bit_writer::BitWriter;
 use bit_writer::zeros;
 use mini::ChunkSizes;
@@ -256,20 +256,6 @@ pub struct TmapCicpFields {
     pub full_range: bool,
 }
 
-pub fn has_tmap_cicp(c: TmapCicp) -> bool
-    ensures { λ r. ⌜ r ≡ hasTmapCicp c ⌝ }
-{
-    match c {
-        TmapCicp::Absent => false,
-        TmapCicp::Present {
-            primaries: _,
-            transfer: _,
-            matrix: _,
-            full_range: _,
-        } => true,
-    }
-}
-
 fn tmap_cicp_fields(c: TmapCicp) -> TmapCicpFields
     ensures { λ r. ⌜ (r .primaries, (r .transfer, (r .matrix, r .«full_range»))) ≡ tmapCicpFrom c ⌝ }
 {
@@ -297,7 +283,7 @@ fn tmap_cicp_fields(c: TmapCicp) -> TmapCicpFields
 pub fn put_tmap_cicp(w: BitWriter, out: &mut [u8], on: bool, c: TmapCicp) -> BitWriter
     ensures { λ r. ⌜ Puts (tmapCicp on) (now (out .entry)) w c (now (out .exit)) r ⌝ }
 {
-    let present = has_tmap_cicp(c);
+    let present = c.is_present();
     if on {
         let f = tmap_cicp_fields(c);
         let w1 = w.put(out, 8, f.primaries as usize);

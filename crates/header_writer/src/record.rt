@@ -1,6 +1,5 @@
 // The header of a record, in its narrowest forms.
 ghost use mathlib.Core.Path.{_≡_};
-ghost use Rattle.mini.specs.Same.{chunkLen};
 ghost use Rattle.mini.specs.Write.{headerOf, notEmpty};
 use bits::both;
 use bits::either;
@@ -12,15 +11,6 @@ use mini::GainMapHeader;
 use mini::Header;
 use mini::MainFormat;
 use mini::MinimizedImage;
-
-fn chunk_len(c: Chunk) -> usize
-    ensures { λ r. ⌜ r ≡ chunkLen c ⌝ }
-{
-    match c {
-        Chunk::Absent => 0,
-        Chunk::Present { at: _, len } => len,
-    }
-}
 
 pub fn not_empty(c: Chunk) -> bool
     ensures { λ r. ⌜ r ≡ notEmpty c ⌝ }
@@ -104,7 +94,7 @@ fn gain_map_header_of(i: MinimizedImage) -> GainMapHeader
     let icc = g.tmap_icc;
     let tmap_icc = icc.is_present();
     let tmap_cicp = g.tmap_cicp;
-    let tmap_explicit_cicp = crate::header::has_tmap_cicp(tmap_cicp);
+    let tmap_explicit_cicp = tmap_cicp.is_present();
     GainMapHeader {
         present: i.has_gain_map,
         same_dimensions,
@@ -127,15 +117,15 @@ fn sizes_of(i: MinimizedImage) -> ChunkSizes
 {
     let g = i.gain_map;
     let icc_chunk = i.icc;
-    let icc = chunk_len(icc_chunk);
+    let icc = icc_chunk.len();
     let tmap_chunk = g.tmap_icc;
-    let tmap_icc = chunk_len(tmap_chunk);
+    let tmap_icc = tmap_chunk.len();
     let metadata_span = g.metadata;
     let gain_map_metadata = metadata_span.len;
     let data_span = g.data;
     let gain_map_data = data_span.len;
     let gain_config_chunk = g.codec_config;
-    let gain_map_codec_config = chunk_len(gain_config_chunk);
+    let gain_map_codec_config = gain_config_chunk.len();
     let main_config_span = i.main_codec_config;
     let main_codec_config = main_config_span.len;
     let main_span = i.main_data;
@@ -143,11 +133,11 @@ fn sizes_of(i: MinimizedImage) -> ChunkSizes
     let alpha_span = i.alpha_data;
     let alpha_data = alpha_span.len;
     let alpha_config_chunk = i.alpha_codec_config;
-    let alpha_codec_config = chunk_len(alpha_config_chunk);
+    let alpha_codec_config = alpha_config_chunk.len();
     let exif_chunk = i.exif;
-    let exif = chunk_len(exif_chunk);
+    let exif = exif_chunk.len();
     let xmp_chunk = i.xmp;
-    let xmp = chunk_len(xmp_chunk);
+    let xmp = xmp_chunk.len();
     let m1 = either(1024 < exif, 1024 < xmp);
     let m2 = either(1023 < gain_map_metadata, m1);
     let m3 = either(1024 < tmap_icc, m2);

@@ -6,6 +6,7 @@ use mathlib.Core.List.{List, [], _∷_, _++_, append-nil, append-assoc}
 use Prim.Native.Nat.{ℕ, _+_, _≤_}
 use native.Mathlib.Omega.{arith}
 use lib.ListN.{length, length-append}
+use Rattle.mini.specs.Cut.{joined, joined-append}
 use Rattle.octets.specs.BigEndian.{be}
 use Rattle.octets.specs.BigEndianLaws.{length-be}
 use Rattle.boxes.specs.Boxed.{boxed, fullBoxHeader, length-boxed, length-fullBoxHeader}
@@ -58,10 +59,6 @@ infeEntries s =
     ++ entryIf (s .exif) (infe EXIF HIDDEN (exifType (s .compressed)))
     ++ entryIf (s .xmp) (mime (s .compressed))
 
-abbrev pub joined : List (List ℕ) → List ℕ
-joined [] = []
-joined (e ∷ es) = e ++ joined es
-
 -- entry_count and the entries
 unfoldable pub iinfBody : ItemSet → List ℕ
 iinfBody s = fullBoxHeader 0 0 ++ be 2 (length (infeEntries s)) ++ joined (infeEntries s)
@@ -97,10 +94,6 @@ entryBytes s =
 
 abbrev pub entryCount : ItemSet → ℕ
 entryCount s = 1 + lenIf (s .alpha) 1 + lenIf (s .«tone_map») 1 + lenIf (s .«gain_map») 1 + lenIf (s .exif) 1 + lenIf (s .xmp) 1
-
-joined-append : (xs ys : List (List ℕ)) → joined (xs ++ ys) ≡ joined xs ++ joined ys
-joined-append [] ys = refl
-joined-append (x ∷ xs) ys = rw (joined-append xs ys, append-assoc)
 
 joined-if : (on : Bool) (e : List ℕ) → joined (entryIf on e) ≡ bytesIf on e
 joined-if true e = append-nil e

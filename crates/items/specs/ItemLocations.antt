@@ -11,6 +11,7 @@ use Rattle.octets.specs.BigEndian.{be}
 use Rattle.octets.specs.BigEndianLaws.{length-be}
 use Rattle.boxes.specs.Boxed.{boxed, fullBoxHeader, length-boxed, length-fullBoxHeader}
 use Rattle.mini.specs.ItemKind.{MAIN, ALPHA, TMAP, GAIN-MAP, EXIF, XMP}
+use Rattle.items.specs.ItemReferences.{cond-most}
 use Rattle.items.specs.declared.DataLengths.{DataLengths}
 
 -- an item's number, the offset of its bytes from the file's first byte, and their length
@@ -108,12 +109,8 @@ pub length-iloc : (base : ℕ) (l : DataLengths) → length (iloc (locations bas
 unfolding iloc ilocBody
 length-iloc base l = simp (length-boxed, length-append, length-fullBoxHeader, length-be, length-entries)
 
-cond-most : (b : Bool) (n : ℕ) → cond b 0 n ≤ n
-cond-most true n = omega arith
-cond-most false n = omega arith
-
 pub for-most : (len n : ℕ) → forBytes len n ≤ n
-for-most len n = cond-most (eqb len 0) n
+for-most len n = cond-most (eqb len 0) n n (omega arith)
 
 pub iloc-most : (l : DataLengths) → ilocLen l ≤ 112
 iloc-most l =

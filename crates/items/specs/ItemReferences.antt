@@ -100,7 +100,7 @@ tone-most s = omega (arith, if-most (s .«tone_map») (14 + lenIf (s .«gain_map
 pub references-most : (s : ItemSet) → referencesLen s ≤ 72
 references-most s = omega (arith, alpha-most s, tone-most s, if-most (s .exif) 14, if-most (s .xmp) 14)
 
-cond-most : (b : Bool) (n m : ℕ) → n ≤ m → cond b 0 n ≤ m
+pub cond-most : (b : Bool) (n m : ℕ) → n ≤ m → cond b 0 n ≤ m
 cond-most true n m h = omega arith
 cond-most false n m h = h
 

@@ -1,3 +1,5 @@
 pub mod HeaderBytes
 pub mod RecordBytes
 pub mod RecordLength
+pub mod CheckBytes
+pub mod FileTypeBytes

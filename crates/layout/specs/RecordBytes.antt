@@ -1,8 +1,9 @@
 -- A record as 441 bytes (docs/ABI.md), field by field in the order of the record; numbers big-endian. What may be absent has a
 -- byte before it, 1 if it is present, else 0, and zeros in its place.
-use mathlib.Core.Bool.{Bool, true, false}
+use mathlib.Core.Bool.{Bool, true, false, cond}
 use mathlib.Core.List.{List, [], _∷_, _++_}
 use Prim.Native.Nat.{ℕ}
+use lib.ListN.{replicate}
 use Rattle.octets.specs.BigEndian.{be}
 use Rattle.mini.specs.declared.Chunk.{Chunk}
 use Rattle.mini.specs.declared.Chunk.the-variants as chunk-is
@@ -25,12 +26,9 @@ flagBytes true = 1 ∷ []
 flagBytes false = 0 ∷ []
 
 -- item type and configuration type
-unfoldable pub typesParts : ℕ → ℕ → ℕ → List ℕ
-typesParts present infe config = (present ∷ []) ++ be 4 infe ++ be 4 config
-
 abbrev pub codecTypesBytes : ExplicitCodecTypes → List ℕ
-codecTypesBytes types-are.Absent = typesParts 0 0 0
-codecTypesBytes (types-are.Present infe config) = typesParts 1 infe config
+codecTypesBytes types-are.Absent = replicate 9 0
+codecTypesBytes (types-are.Present infe config) = (1 ∷ []) ++ be 4 infe ++ be 4 config
 
 -- 0 integer, 1 float; bits
 abbrev pub formatBytes : SampleFormat → List ℕ
@@ -41,27 +39,22 @@ unfoldable pub chromaBytes : MiniChroma → List ℕ
 chromaBytes c = (c .subsampling ∷ []) ++ flagBytes (c .«horizontally_centered») ++ flagBytes (c .«vertically_centered»)
 
 -- primaries, transfer, matrix
-unfoldable pub colourParts : ℕ → ℕ → ℕ → ℕ → List ℕ
-colourParts present primaries transfer matrix = (present ∷ []) ++ (primaries ∷ []) ++ (transfer ∷ []) ++ (matrix ∷ [])
+unfoldable pub colourBytes : ℕ → ℕ → ℕ → List ℕ
+colourBytes primaries transfer matrix = (1 ∷ []) ++ (primaries ∷ []) ++ (transfer ∷ []) ++ (matrix ∷ [])
 
 abbrev pub cicpBytes : ExplicitCicp → List ℕ
-cicpBytes cicp-is.Absent = colourParts 0 0 0 0
-cicpBytes (cicp-is.Present primaries transfer matrix) = colourParts 1 primaries transfer matrix
+cicpBytes cicp-is.Absent = replicate 4 0
+cicpBytes (cicp-is.Present primaries transfer matrix) = colourBytes primaries transfer matrix
 
-unfoldable pub tmapParts : ℕ → ℕ → ℕ → ℕ → Bool → List ℕ
-tmapParts present primaries transfer matrix full = colourParts present primaries transfer matrix ++ flagBytes full
-
+-- and full range
 abbrev pub tmapCicpBytes : TmapCicp → List ℕ
-tmapCicpBytes tmap-is.Absent = tmapParts 0 0 0 0 false
-tmapCicpBytes (tmap-is.Present primaries transfer matrix full) = tmapParts 1 primaries transfer matrix full
+tmapCicpBytes tmap-is.Absent = replicate 5 0
+tmapCicpBytes (tmap-is.Present primaries transfer matrix full) = colourBytes primaries transfer matrix ++ flagBytes full
 
 -- position and length in the payload
-unfoldable pub chunkParts : ℕ → ℕ → ℕ → List ℕ
-chunkParts present at len = (present ∷ []) ++ be 8 at ++ be 8 len
-
 abbrev pub chunkBytes : Chunk → List ℕ
-chunkBytes chunk-is.Absent = chunkParts 0 0 0
-chunkBytes (chunk-is.Present at len) = chunkParts 1 at len
+chunkBytes chunk-is.Absent = replicate 17 0
+chunkBytes (chunk-is.Present at len) = (1 ∷ []) ++ be 8 at ++ be 8 len
 
 unfoldable pub spanBytes : Span → List ℕ
 spanBytes s = be 8 (s .at) ++ be 8 (s .len)
@@ -97,8 +90,8 @@ pictureBytes i =
     ++ be 4 (i .width)
     ++ be 4 (i .height)
 
-unfoldable pub colourBytes : MinimizedImage → List ℕ
-colourBytes i =
+unfoldable pub colourAndAlphaBytes : MinimizedImage → List ℕ
+colourAndAlphaBytes i =
     cicpBytes (i .«explicit_cicp») ++ chunkBytes (i .icc) ++ flagBytes (i .alpha) ++ flagBytes (i .«alpha_premultiplied») ++ flagBytes (i .hdr)
 
 unfoldable pub itemBytes : MinimizedImage → List ℕ
@@ -108,6 +101,15 @@ itemBytes i =
     ++ chunkBytes (i .exif)
     ++ chunkBytes (i .xmp)
 
+-- HDR bodies where hdr is set, a gain map where there is one
+abbrev pub hdrBoxesBytesIf : Bool → MiniHdrBoxes → List ℕ
+hdrBoxesBytesIf on h = cond on (hdrBoxesBytes h) (replicate 103 0)
+
+abbrev pub gainMapBytesIf : Bool → MiniGainMap → List ℕ
+gainMapBytesIf on g = cond on (gainMapBytes g) (replicate 189 0)
+
 unfoldable pub recordBytes : MinimizedImage → List ℕ
 recordBytes i =
-    pictureBytes i ++ colourBytes i ++ hdrBoxesBytes (i .«hdr_boxes») ++ flagBytes (i .«has_gain_map») ++ gainMapBytes (i .«gain_map») ++ itemBytes i
+    pictureBytes i ++ colourAndAlphaBytes i ++ hdrBoxesBytesIf (i .hdr) (i .«hdr_boxes») ++ flagBytes (i .«has_gain_map»)
+    ++ gainMapBytesIf (i .«has_gain_map») (i .«gain_map»)
+    ++ itemBytes i

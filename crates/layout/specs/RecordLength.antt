@@ -13,6 +13,7 @@ use Rattle.mini.specs.declared.ExplicitCicp.the-variants as cicp-is
 use Rattle.mini.specs.declared.ExplicitCodecTypes.{ExplicitCodecTypes}
 use Rattle.mini.specs.declared.ExplicitCodecTypes.the-variants as types-are
 use Rattle.mini.specs.declared.MiniChroma.{MiniChroma}
+use Rattle.mini.specs.declared.MiniGainMap.{MiniGainMap}
 use Rattle.mini.specs.declared.MiniHdrBoxes.{MiniHdrBoxes}
 use Rattle.mini.specs.declared.MinimizedImage.{MinimizedImage}
 use Rattle.mini.specs.declared.SampleFormat.{SampleFormat}
@@ -20,15 +21,14 @@ use Rattle.mini.specs.declared.SampleFormat.the-variants.{Integer, Float}
 use Rattle.mini.specs.declared.Span.{Span}
 use Rattle.mini.specs.declared.TmapCicp.{TmapCicp}
 use Rattle.mini.specs.declared.TmapCicp.the-variants as tmap-is
-use Rattle.layout.specs.RecordBytes.{flagBytes, typesParts, codecTypesBytes, formatBytes, chromaBytes, colourParts, cicpBytes, tmapParts, tmapCicpBytes, chunkParts, chunkBytes, spanBytes, hdrFlagBytes, hdrBodyBytes, hdrBoxesBytes, gainMapPictureBytes, gainMapBytes, pictureBytes, colourBytes, itemBytes, recordBytes}
+use Rattle.layout.specs.RecordBytes.{flagBytes, codecTypesBytes, formatBytes, chromaBytes, colourBytes, cicpBytes, tmapCicpBytes, chunkBytes, spanBytes, hdrFlagBytes, hdrBodyBytes, hdrBoxesBytes, hdrBoxesBytesIf, gainMapPictureBytes, gainMapBytes, gainMapBytesIf, pictureBytes, colourAndAlphaBytes, itemBytes, recordBytes}
 
-length-flag : (on : Bool) → length (flagBytes on) ≡ 1
+pub length-flag : (on : Bool) → length (flagBytes on) ≡ 1
 length-flag true = refl
 length-flag false = refl
 
 length-types : (t : ExplicitCodecTypes) → length (codecTypesBytes t) ≡ 9
-unfolding typesParts
-length-types types-are.Absent = simp (length-append, length-be)
+length-types types-are.Absent = refl
 length-types (types-are.Present infe config) = simp (length-append, length-be)
 
 length-format : (f : SampleFormat) → length (formatBytes f) ≡ 2
@@ -40,21 +40,20 @@ unfolding chromaBytes
 length-chroma c = simp (length-append, length-flag)
 
 length-cicp : (t : ExplicitCicp) → length (cicpBytes t) ≡ 4
-unfolding colourParts
+unfolding colourBytes
 length-cicp cicp-is.Absent = refl
 length-cicp (cicp-is.Present primaries transfer matrix) = refl
 
 length-tmap : (t : TmapCicp) → length (tmapCicpBytes t) ≡ 5
-unfolding tmapParts colourParts
+unfolding colourBytes
 length-tmap tmap-is.Absent = refl
 length-tmap (tmap-is.Present primaries transfer matrix full) = simp (length-append, length-flag)
 
-length-chunk : (c : Chunk) → length (chunkBytes c) ≡ 17
-unfolding chunkParts
-length-chunk chunk-is.Absent = simp (length-append, length-be)
+pub length-chunk : (c : Chunk) → length (chunkBytes c) ≡ 17
+length-chunk chunk-is.Absent = refl
 length-chunk (chunk-is.Present at len) = simp (length-append, length-be)
 
-length-span : (s : Span) → length (spanBytes s) ≡ 16
+pub length-span : (s : Span) → length (spanBytes s) ≡ 16
 unfolding spanBytes
 length-span s = simp (length-append, length-be)
 
@@ -66,8 +65,17 @@ pub length-hdr : (h : MiniHdrBoxes) → length (h .clli) ≡ 4 → length (h .md
 unfolding hdrBoxesBytes hdrFlagBytes hdrBodyBytes
 length-hdr h a b c d e f = simp (length-append, length-flag, a, b, c, d, e, f)
 
+length-hdr-if : (on : Bool) (h : MiniHdrBoxes) → length (hdrBoxesBytes h) ≡ 103 → length (hdrBoxesBytesIf on h) ≡ 103
+length-hdr-if true h e = e
+length-hdr-if false h e = refl
+
+length-gain-map-if : (on : Bool) (g : MiniGainMap) → length (hdrBoxesBytes (g .«tmap_hdr»)) ≡ 103 → length (gainMapBytesIf on g) ≡ 189
+unfolding gainMapBytes gainMapPictureBytes
+length-gain-map-if true g e = simp (length-append, length-be, length-flag, length-format, length-chroma, length-tmap, length-chunk, length-span, e)
+length-gain-map-if false g e = refl
+
 pub length-record : (i : MinimizedImage) → length (hdrBoxesBytes (i .«hdr_boxes»)) ≡ 103 → length (hdrBoxesBytes (i .«gain_map» .«tmap_hdr»)) ≡ 103
     → length (recordBytes i) ≡ 441
-unfolding recordBytes pictureBytes colourBytes gainMapBytes gainMapPictureBytes itemBytes
+unfolding recordBytes pictureBytes colourAndAlphaBytes itemBytes
 length-record i a b =
-    simp (length-append, length-be, length-flag, length-types, length-format, length-chroma, length-cicp, length-tmap, length-chunk, length-span, a, b)
+    simp (length-append, length-be, length-flag, length-types, length-format, length-chroma, length-cicp, length-chunk, length-span, length-hdr-if (i .hdr) (i .«hdr_boxes») a, length-gain-map-if (i .«has_gain_map») (i .«gain_map») b)

@@ -1,3 +1,5 @@
-// Box headers and records as bytes in a fixed layout (docs/ABI.md), for what crosses to C and Rust.
+// Box headers, file types, records and their desk check as bytes in a fixed layout (docs/ABI.md), for what crosses to C and Rust.
+pub mod check;
+pub mod file_type;
 pub mod header;
 pub mod record;

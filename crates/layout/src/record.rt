@@ -4,7 +4,7 @@ ghost use mathlib.Core.List.{[], _∷_, _++_};
 ghost use Prim.Native.Nat.{_+_, _≤_};
 ghost use lib.ListN.{length};
 ghost use Rattle.octets.specs.Overwrite.{Wrote};
-ghost use Rattle.layout.specs.RecordBytes.{flagBytes, typesParts, codecTypesBytes, formatBytes, chromaBytes, colourParts, cicpBytes, tmapParts, tmapCicpBytes, chunkParts, chunkBytes, spanBytes, hdrFlagBytes, hdrBodyBytes, hdrBoxesBytes, gainMapPictureBytes, gainMapBytes, pictureBytes, colourBytes, itemBytes, recordBytes};
+ghost use Rattle.layout.specs.RecordBytes.{flagBytes, codecTypesBytes, formatBytes, chromaBytes, colourBytes, cicpBytes, tmapCicpBytes, chunkBytes, spanBytes, hdrFlagBytes, hdrBodyBytes, hdrBoxesBytes, hdrBoxesBytesIf, gainMapPictureBytes, gainMapBytes, gainMapBytesIf, pictureBytes, colourAndAlphaBytes, itemBytes, recordBytes};
 use mini::Chunk;
 use mini::ExplicitCicp;
 use mini::ExplicitCodecTypes;
@@ -19,8 +19,9 @@ use octets::copy_in;
 use octets::put_u8;
 use octets::put_u32;
 use octets::put_u64;
+use octets::put_zeros;
 
-fn put_flag(out: &mut [u8], at: usize, on: bool) -> usize
+pub fn put_flag(out: &mut [u8], at: usize, on: bool) -> usize
     requires { ⌜ at + 1 ≤ length (now out) ⌝ }
     ensures { λ r. ⌜ Wrote (now (out .entry)) at 1 (flagBytes on) (now (out .exit)) r ⌝ }
 {
@@ -31,26 +32,20 @@ fn put_flag(out: &mut [u8], at: usize, on: bool) -> usize
     }
 }
 
-fn put_types_parts(out: &mut [u8], at: usize, present: u8, infe: u32, config: u32) -> usize
-    requires { ⌜ at + 9 ≤ length (now out) ⌝ }
-    ensures { λ r. ⌜ Wrote (now (out .entry)) at 9 (typesParts present infe config) (now (out .exit)) r ⌝ }
-{
-    let a = put_u8(out, at, present);
-    let b = put_u32(out, a, infe);
-    put_u32(out, b, config)
-}
-
 fn put_codec_types(out: &mut [u8], at: usize, t: ExplicitCodecTypes) -> usize
     requires { ⌜ at + 9 ≤ length (now out) ⌝ }
     ensures { λ r. ⌜ Wrote (now (out .entry)) at 9 (codecTypesBytes t) (now (out .exit)) r ⌝ }
 {
-    match t {
-        ExplicitCodecTypes::Absent => put_types_parts(out, at, 0, 0, 0),
-        ExplicitCodecTypes::Present {
-            infe_type,
-            codec_config_type,
-        } => put_types_parts(out, at, 1, infe_type, codec_config_type),
-    }
+    let ExplicitCodecTypes::Present {
+        infe_type,
+        codec_config_type,
+    } = t
+    else {
+        return put_zeros(out, at, 9);
+    };
+    let a = put_u8(out, at, 1);
+    let b = put_u32(out, a, infe_type);
+    put_u32(out, b, codec_config_type)
 }
 
 fn put_two(out: &mut [u8], at: usize, first: u8, second: u8) -> usize
@@ -80,18 +75,11 @@ fn put_chroma(out: &mut [u8], at: usize, c: MiniChroma) -> usize
     put_flag(out, b, c.vertically_centered)
 }
 
-fn put_colour_parts(
-    out: &mut [u8],
-    at: usize,
-    present: u8,
-    primaries: u8,
-    transfer: u8,
-    matrix: u8,
-) -> usize
+fn put_colour(out: &mut [u8], at: usize, primaries: u8, transfer: u8, matrix: u8) -> usize
     requires { ⌜ at + 4 ≤ length (now out) ⌝ }
-    ensures { λ r. ⌜ Wrote (now (out .entry)) at 4 (colourParts present primaries transfer matrix) (now (out .exit)) r ⌝ }
+    ensures { λ r. ⌜ Wrote (now (out .entry)) at 4 (colourBytes primaries transfer matrix) (now (out .exit)) r ⌝ }
 {
-    let a = put_u8(out, at, present);
+    let a = put_u8(out, at, 1);
     let b = put_u8(out, a, primaries);
     let c = put_u8(out, b, transfer);
     put_u8(out, c, matrix)
@@ -101,67 +89,47 @@ fn put_cicp(out: &mut [u8], at: usize, t: ExplicitCicp) -> usize
     requires { ⌜ at + 4 ≤ length (now out) ⌝ }
     ensures { λ r. ⌜ Wrote (now (out .entry)) at 4 (cicpBytes t) (now (out .exit)) r ⌝ }
 {
-    match t {
-        ExplicitCicp::Absent => put_colour_parts(out, at, 0, 0, 0, 0),
-        ExplicitCicp::Present {
-            primaries,
-            transfer,
-            matrix,
-        } => put_colour_parts(out, at, 1, primaries, transfer, matrix),
-    }
-}
-
-fn put_tmap_parts(
-    out: &mut [u8],
-    at: usize,
-    present: u8,
-    primaries: u8,
-    transfer: u8,
-    matrix: u8,
-    full_range: bool,
-) -> usize
-    requires { ⌜ at + 5 ≤ length (now out) ⌝ }
-    ensures { λ r. ⌜ Wrote (now (out .entry)) at 5 (tmapParts present primaries transfer matrix «full_range») (now (out .exit)) r ⌝ }
-{
-    let a = put_colour_parts(out, at, present, primaries, transfer, matrix);
-    put_flag(out, a, full_range)
+    let ExplicitCicp::Present {
+        primaries,
+        transfer,
+        matrix,
+    } = t
+    else {
+        return put_zeros(out, at, 4);
+    };
+    put_colour(out, at, primaries, transfer, matrix)
 }
 
 fn put_tmap_cicp(out: &mut [u8], at: usize, t: TmapCicp) -> usize
     requires { ⌜ at + 5 ≤ length (now out) ⌝ }
     ensures { λ r. ⌜ Wrote (now (out .entry)) at 5 (tmapCicpBytes t) (now (out .exit)) r ⌝ }
 {
-    match t {
-        TmapCicp::Absent => put_tmap_parts(out, at, 0, 0, 0, 0, false),
-        TmapCicp::Present {
-            primaries,
-            transfer,
-            matrix,
-            full_range,
-        } => put_tmap_parts(out, at, 1, primaries, transfer, matrix, full_range),
-    }
+    let TmapCicp::Present {
+        primaries,
+        transfer,
+        matrix,
+        full_range,
+    } = t
+    else {
+        return put_zeros(out, at, 5);
+    };
+    let a = put_colour(out, at, primaries, transfer, matrix);
+    put_flag(out, a, full_range)
 }
 
-fn put_chunk_parts(out: &mut [u8], at: usize, present: u8, place: usize, len: usize) -> usize
+pub fn put_chunk(out: &mut [u8], at: usize, c: Chunk) -> usize
     requires { ⌜ at + 17 ≤ length (now out) ⌝ }
-    ensures { λ r. ⌜ Wrote (now (out .entry)) at 17 (chunkParts present place len) (now (out .exit)) r ⌝ }
+    ensures { λ r. ⌜ Wrote (now (out .entry)) at 17 (chunkBytes c) (now (out .exit)) r ⌝ }
 {
-    let a = put_u8(out, at, present);
+    let Chunk::Present { at: place, len } = c else {
+        return put_zeros(out, at, 17);
+    };
+    let a = put_u8(out, at, 1);
     let b = put_u64(out, a, place as u64);
     put_u64(out, b, len as u64)
 }
 
-fn put_chunk(out: &mut [u8], at: usize, c: Chunk) -> usize
-    requires { ⌜ at + 17 ≤ length (now out) ⌝ }
-    ensures { λ r. ⌜ Wrote (now (out .entry)) at 17 (chunkBytes c) (now (out .exit)) r ⌝ }
-{
-    match c {
-        Chunk::Absent => put_chunk_parts(out, at, 0, 0, 0),
-        Chunk::Present { at: place, len } => put_chunk_parts(out, at, 1, place, len),
-    }
-}
-
-fn put_span(out: &mut [u8], at: usize, s: Span) -> usize
+pub fn put_span(out: &mut [u8], at: usize, s: Span) -> usize
     requires { ⌜ at + 16 ≤ length (now out) ⌝ }
     ensures { λ r. ⌜ Wrote (now (out .entry)) at 16 (spanBytes s) (now (out .exit)) r ⌝ }
 {
@@ -242,6 +210,17 @@ fn put_hdr_boxes(out: &mut [u8], at: usize, h: MiniHdrBoxes) -> usize
     put_hdr_bodies(out, a, h)
 }
 
+fn put_hdr_boxes_if(out: &mut [u8], at: usize, on: bool, h: MiniHdrBoxes) -> usize
+    requires { ⌜ at + 103 ≤ length (now out) ⌝ }
+    ensures { λ r. ⌜ Wrote (now (out .entry)) at 103 (hdrBoxesBytesIf on h) (now (out .exit)) r ⌝ }
+{
+    if on {
+        put_hdr_boxes(out, at, h)
+    } else {
+        put_zeros(out, at, 103)
+    }
+}
+
 fn put_gain_map_picture(out: &mut [u8], at: usize, g: MiniGainMap) -> usize
     requires { ⌜ at + 20 ≤ length (now out) ⌝ }
     ensures { λ r. ⌜ Wrote (now (out .entry)) at 20 (gainMapPictureBytes g) (now (out .exit)) r ⌝ }
@@ -275,6 +254,17 @@ fn put_gain_map(out: &mut [u8], at: usize, g: MiniGainMap) -> usize
     put_span(out, e, data)
 }
 
+fn put_gain_map_if(out: &mut [u8], at: usize, on: bool, g: MiniGainMap) -> usize
+    requires { ⌜ at + 189 ≤ length (now out) ⌝ }
+    ensures { λ r. ⌜ Wrote (now (out .entry)) at 189 (gainMapBytesIf on g) (now (out .exit)) r ⌝ }
+{
+    if on {
+        put_gain_map(out, at, g)
+    } else {
+        put_zeros(out, at, 189)
+    }
+}
+
 // Codec types, samples, orientation and dimensions.
 fn put_picture(out: &mut [u8], at: usize, i: MinimizedImage) -> usize
     requires { ⌜ at + 24 ≤ length (now out) ⌝ }
@@ -293,9 +283,9 @@ fn put_picture(out: &mut [u8], at: usize, i: MinimizedImage) -> usize
 }
 
 // Colour, alpha and hdr.
-fn put_colour(out: &mut [u8], at: usize, i: MinimizedImage) -> usize
+fn put_colour_and_alpha(out: &mut [u8], at: usize, i: MinimizedImage) -> usize
     requires { ⌜ at + 24 ≤ length (now out) ⌝ }
-    ensures { λ r. ⌜ Wrote (now (out .entry)) at 24 (colourBytes i) (now (out .exit)) r ⌝ }
+    ensures { λ r. ⌜ Wrote (now (out .entry)) at 24 (colourAndAlphaBytes i) (now (out .exit)) r ⌝ }
 {
     let cicp = i.explicit_cicp;
     let icc = i.icc;
@@ -333,10 +323,10 @@ pub fn put_record(out: &mut [u8], at: usize, i: MinimizedImage) -> usize
     let hdr_boxes = i.hdr_boxes;
     let gain_map = i.gain_map;
     let a = put_picture(out, at, i);
-    let b = put_colour(out, a, i);
-    let c = put_hdr_boxes(out, b, hdr_boxes);
+    let b = put_colour_and_alpha(out, a, i);
+    let c = put_hdr_boxes_if(out, b, i.hdr, hdr_boxes);
     let d = put_flag(out, c, i.has_gain_map);
-    let e = put_gain_map(out, d, gain_map);
+    let e = put_gain_map_if(out, d, i.has_gain_map, gain_map);
     put_items(out, e, i)
 }
 

@@ -21,6 +21,10 @@ abbrev pub joined : List (List ℕ) → List ℕ
 joined [] = []
 joined (c ∷ cs) = c ++ joined cs
 
+pub joined-append : (l m : List (List ℕ)) → joined (l ++ m) ≡ joined l ++ joined m
+joined-append [] m = refl
+joined-append (x ∷ l) m = ap (λ (y : List ℕ). x ++ y) (joined-append l m) ∙ sym (append-assoc x (joined l) (joined m))
+
 -- the chunks of the given sizes, one after another from at on
 abbrev pub cut : ℕ → List ℕ → List ℕ → List (List ℕ)
 cut at [] s = []

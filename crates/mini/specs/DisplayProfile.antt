@@ -5,6 +5,7 @@ use Prim.Native.Nat.{ℕ}
 use lib.Dec.{leb}
 use Rattle.mini.specs.Chunks.{isPresent}
 use Rattle.mini.specs.Views.{isFloat}
+use Rattle.mini.specs.declared.DisplayConditions.{DisplayConditions}
 use Rattle.mini.specs.declared.MinimizedImage.{MinimizedImage}
 
 abbrev pub maxDisplayWidth : ℕ
@@ -13,8 +14,20 @@ maxDisplayWidth = 1920
 abbrev pub maxDisplayHeight : ℕ
 maxDisplayHeight = 1080
 
+-- the five conditions, in that order
+unfoldable pub displayConditions : MinimizedImage → DisplayConditions
+displayConditions i =
+    record {
+      «integer_samples» = not (isFloat (i .format));
+      «no_gain_map» = not (i .«has_gain_map»);
+      «exif_present» = isPresent (i .exif);
+      «width_fits» = leb (i .width) maxDisplayWidth;
+      «height_fits» = leb (i .height) maxDisplayHeight;
+    }
+
+-- all of them
+abbrev pub allHold : DisplayConditions → Bool
+allHold d = d .«integer_samples» && (d .«no_gain_map» && (d .«exif_present» && (d .«width_fits» && d .«height_fits»)))
+
 abbrev pub meetsDisplayProfile : MinimizedImage → Bool
-meetsDisplayProfile i =
-    not (isFloat (i .format))
-    && (not (i .«has_gain_map»)
-    && (isPresent (i .exif) && (leb (i .width) maxDisplayWidth && leb (i .height) maxDisplayHeight)))
+meetsDisplayProfile i = allHold (displayConditions i)

@@ -72,7 +72,7 @@ pub whole : (h : Header) → Parts h → header .Good h
 unfolding header _>>=_ view
 whole h p = ((p .flags-ok, (p .dimensions-ok, (p .main-ok, (p .gain-map-ok, (p .hdr-ok, (p .tmap-hdr-ok, p .sizes-ok)))))), refl)
 
-T-true : (b : Bool) → T b → b ≡ true
+pub T-true : (b : Bool) → T b → b ≡ true
 T-true true h = refl
 T-true false h = absurd h
 

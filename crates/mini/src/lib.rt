@@ -4,8 +4,9 @@ ghost use Prim.Native.Nat.{_≤_};
 ghost use Rattle.mini.specs.Cclv.{cclvMore};
 ghost use Rattle.mini.specs.Chunks.{isPresent};
 ghost use Rattle.mini.specs.Cicp.{tableCicp, cicpOf};
-ghost use Rattle.mini.specs.DisplayProfile.{meetsDisplayProfile};
-ghost use Rattle.mini.specs.Views.{isFloat};
+ghost use Rattle.mini.specs.DisplayProfile.{displayConditions, meetsDisplayProfile};
+ghost use Rattle.mini.specs.Same.{chunkLen};
+ghost use Rattle.mini.specs.Views.{isFloat, hasTmapCicp};
 
 pub enum SampleFormat {
     Integer { bits: u8 },
@@ -241,6 +242,15 @@ impl ItemKind {
     pub const XMP: u16 = 7;
 }
 
+// What the desk check asks of a record, each by itself (document 01).
+pub struct DisplayConditions {
+    pub integer_samples: bool,
+    pub no_gain_map: bool,
+    pub exif_present: bool,
+    pub width_fits: bool,
+    pub height_fits: bool,
+}
+
 const MAX_DISPLAY_WIDTH: u32 = 1920;
 
 const MAX_DISPLAY_HEIGHT: u32 = 1080;
@@ -252,6 +262,32 @@ impl Chunk {
         match self {
             Chunk::Absent => false,
             Chunk::Present { at: _, len: _ } => true,
+        }
+    }
+
+    // 0 where it is absent.
+    pub fn len(self) -> usize
+        ensures { λ r. ⌜ r ≡ chunkLen self ⌝ }
+    {
+        match self {
+            Chunk::Absent => 0,
+            Chunk::Present { at: _, len } => len,
+        }
+    }
+}
+
+impl TmapCicp {
+    pub fn is_present(self) -> bool
+        ensures { λ r. ⌜ r ≡ hasTmapCicp self ⌝ }
+    {
+        match self {
+            TmapCicp::Absent => false,
+            TmapCicp::Present {
+                primaries: _,
+                transfer: _,
+                matrix: _,
+                full_range: _,
+            } => true,
         }
     }
 }
@@ -312,17 +348,29 @@ impl MinimizedImage {
         }
     }
 
+    pub fn display_conditions(self) -> DisplayConditions
+        ensures { λ r. ⌜ r ≡ displayConditions self ⌝ }
+    {
+        let format = self.format;
+        let exif = self.exif;
+        let float = format.is_float();
+        let exif_present = exif.is_present();
+        DisplayConditions {
+            integer_samples: !float,
+            no_gain_map: !self.has_gain_map,
+            exif_present,
+            width_fits: self.width <= MAX_DISPLAY_WIDTH,
+            height_fits: self.height <= MAX_DISPLAY_HEIGHT,
+        }
+    }
+
     // Whether a display takes the picture as it is (document 01's desk check).
     pub fn meets_display_profile(self) -> bool
         ensures { λ r. ⌜ r ≡ meetsDisplayProfile self ⌝ }
     {
-        let format = self.format;
-        let exif = self.exif;
-        let size = bits::both(
-            self.width <= MAX_DISPLAY_WIDTH,
-            self.height <= MAX_DISPLAY_HEIGHT,
-        );
-        let plain = bits::both(!self.has_gain_map, bits::both(exif.is_present(), size));
-        bits::both(!format.is_float(), plain)
+        let c = self.display_conditions();
+        let size = bits::both(c.width_fits, c.height_fits);
+        let plain = bits::both(c.no_gain_map, bits::both(c.exif_present, size));
+        bits::both(c.integer_samples, plain)
     }
 }

@@ -75,23 +75,6 @@ pub overwrite-before : (out : List ℕ) (at : ℕ) (hs bs : List ℕ)
     → overwrite (overwrite out (at + length hs) bs) at hs ≡ overwrite out at (hs ++ bs)
 overwrite-before out at hs bs = overwrite-comm out (at + length hs) bs at hs (le-refl (at + length hs)) ∙ sym (overwrite-append out at hs bs)
 
-take-sets : (k : ℕ) (out : List ℕ) (at : ℕ) (bs : List ℕ) → k ≤ at → take k (sets out at bs) ≡ take k out
-take-sets k out at [] h = refl
-take-sets k out at (b ∷ bs) h = take-sets k (set out at b) (suc at) bs (omega arith) ∙ take-set-le k out at b h
-
-drop-sets : (k : ℕ) (out : List ℕ) (at : ℕ) (bs : List ℕ) → at + length bs ≤ k → drop k (sets out at bs) ≡ drop k out
-drop-sets k out at [] h = refl
-drop-sets k out at (b ∷ bs) h = drop-sets k (set out at b) (suc at) bs (omega arith) ∙ drop-set-lt k out at b (omega arith)
-
--- what stands before and after a write is kept
-pub kept-before : (k : ℕ) (out : List ℕ) (at : ℕ) (bs : List ℕ) → k ≤ at → take k (overwrite out at bs) ≡ take k out
-unfolding overwrite
-kept-before k out at bs h = take-sets k out at bs h
-
-pub kept-after : (k : ℕ) (out : List ℕ) (at : ℕ) (bs : List ℕ) → at + length bs ≤ k → drop k (overwrite out at bs) ≡ drop k out
-unfolding overwrite
-kept-after k out at bs h = drop-sets k out at bs h
-
 -- with room, the bytes are there
 pub written : (out : List ℕ) (at : ℕ) (bs : List ℕ) → at + length bs ≤ length out → take (length bs) (drop at (overwrite out at bs)) ≡ bs
 written out at bs h =

@@ -2,7 +2,7 @@
 ghost use mathlib.Core.Path.{_≡_};
 ghost use mathlib.Core.List.{[], _∷_};
 ghost use Prim.Native.Nat.{_+_, _≤_, _<_};
-ghost use lib.ListN.{length};
+ghost use lib.ListN.{length, replicate};
 ghost use Rattle.octets.specs.BigEndian.{be, num};
 ghost use Rattle.octets.specs.Overwrite.{Wrote};
 ghost use Rattle.octets.specs.Part.{Part};
@@ -60,6 +60,19 @@ pub fn copy_in(out: &mut [u8], at: usize, src: &[u8]) -> usize
     let mut j = 0;
     while j < src.len() {
         out[at + j] = src[j];
+        j += 1;
+    }
+    at + j
+}
+
+// As many zeros as asked for.
+pub fn put_zeros(out: &mut [u8], at: usize, n: usize) -> usize
+    requires { ⌜ at + n ≤ length (now out) ⌝ }
+    ensures { λ r. ⌜ Wrote (now (out .entry)) at n (replicate n 0) (now (out .exit)) r ⌝ }
+{
+    let mut j = 0;
+    while j < n {
+        out[at + j] = 0;
         j += 1;
     }
     at + j

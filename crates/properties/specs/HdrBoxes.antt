@@ -4,7 +4,7 @@ use mathlib.Core.List.{List}
 use Prim.Native.Nat.{ℕ, _+_}
 use lib.ListN.{take, getD}
 use Rattle.boxes.specs.Boxed.{boxed}
-use Rattle.mini.specs.Cclv.{cclvMore}
+use Rattle.mini.specs.Cclv.{cclvLength}
 use Rattle.properties.specs.Property.{fullBox}
 
 unfoldable pub clli : List ℕ → List ℕ
@@ -19,15 +19,12 @@ mdcv body = boxed 0x6D646376 body
 abbrev pub mdcvLen : ℕ
 mdcvLen = 32
 
--- as many of the bytes held as the first one says (document 01: 'the cclv length')
-abbrev pub cclvBodyLen : ℕ → ℕ
-cclvBodyLen flags = 1 + cclvMore flags
-
+-- as many of the bytes held as the first one says
 unfoldable pub cclv : List ℕ → List ℕ
-cclv held = boxed 0x63636C76 (take (cclvBodyLen (getD held 0 0)) held)
+cclv held = boxed 0x63636C76 (take (cclvLength held) held)
 
 abbrev pub cclvLen : List ℕ → ℕ
-cclvLen held = 8 + cclvBodyLen (getD held 0 0)
+cclvLen held = 8 + cclvLength held
 
 unfoldable pub amve : List ℕ → List ℕ
 amve body = boxed 0x616D7665 body

@@ -4,14 +4,14 @@ use mathlib.Core.Bool.{Bool}
 use mathlib.Core.List.{List, [], _∷_, map}
 use Prim.Native.Nat.{ℕ, _*_, _≤_}
 use native.Mathlib.Omega.{arith}
-use lib.ListN.{length, take, getD, length-append, length-replicate}
+use lib.ListN.{length, take, length-append, length-replicate}
 use lib.Seq.{length-take-le}
 use Rattle.octets.specs.BigEndianLaws.{length-be}
 use Rattle.boxes.specs.Boxed.{length-boxed, length-fullBoxHeader}
-use Rattle.mini.specs.Cclv.{cclvMore}
+use Rattle.mini.specs.Cclv.{cclvMore, cclvLength}
 use Rattle.mini.specs.Cut.{joined}
 use Rattle.mini.specs.declared.SampleFormat.{SampleFormat}
-use Rattle.properties.specs.HdrBoxes.{clli, clliLen, mdcv, mdcvLen, cclvBodyLen, cclv, cclvLen, amve, amveLen, reve, reveLen, ndwt, ndwtLen}
+use Rattle.properties.specs.HdrBoxes.{clli, clliLen, mdcv, mdcvLen, cclv, cclvLen, amve, amveLen, reve, reveLen, ndwt, ndwtLen}
 use Rattle.properties.specs.Pixi.{Channel, channelBytes, pixiBody, pixi, pixiLen}
 use Rattle.properties.specs.Property.{fullBox, fullBoxLen, ispeBody, ispe, ispeLen, nclxBody, nclx, nclxLen, profBody, prof, profLen, codecConfig, codecConfigLen, AUX-URN-ALPHA, auxC, auxCLen, irot, imir, turnLen}
 
@@ -72,18 +72,17 @@ pub length-mdcv : (body : List ℕ) → length body ≡ 24 → length (mdcv body
 unfolding mdcv
 length-mdcv body e = length-boxed _ body ∙ rw e
 
-cclv-most : (flags : ℕ) → cclvBodyLen flags ≤ 37
+cclv-most : (held : List ℕ) → cclvLength held ≤ 37
 unfolding cclvMore
-cclv-most flags = omega arith
+cclv-most held = omega arith
 
 pub cclvLen-most : (held : List ℕ) → cclvLen held ≤ 45
-cclvLen-most held = omega (arith, cclv-most (getD held 0 0))
+cclvLen-most held = omega (arith, cclv-most held)
 
 pub length-cclv : (held : List ℕ) → length held ≡ 37 → length (cclv held) ≡ cclvLen held
 unfolding cclv
 length-cclv held e =
-    length-boxed _ (take (cclvBodyLen (getD held 0 0)) held)
-    ∙ rw (length-take-le (cclvBodyLen (getD held 0 0)) held (omega (arith, cclv-most (getD held 0 0))))
+    length-boxed _ (take (cclvLength held) held) ∙ rw (length-take-le (cclvLength held) held (omega (arith, cclv-most held)))
 
 pub length-amve : (body : List ℕ) → length body ≡ 8 → length (amve body) ≡ amveLen
 unfolding amve

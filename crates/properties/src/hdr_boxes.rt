@@ -3,10 +3,11 @@ ghost use mathlib.Core.Path.{_≡_};
 ghost use Prim.Native.Nat.{_+_, _≤_};
 ghost use lib.ListN.{length};
 ghost use Rattle.octets.specs.Overwrite.{Wrote};
-ghost use Rattle.properties.specs.HdrBoxes.{clli, clliLen, mdcv, mdcvLen, cclvBodyLen, cclv, cclvLen, amve, amveLen, reve, reveLen, ndwt, ndwtLen};
+ghost use Rattle.properties.specs.HdrBoxes.{clli, clliLen, mdcv, mdcvLen, cclv, cclvLen, amve, amveLen, reve, reveLen, ndwt, ndwtLen};
 use crate::property::put_box;
 use crate::property::put_full_box;
 use boxes::FourCc;
+use mini::cclv_more;
 
 const CLLI: FourCc = 0x636C6C69;
 
@@ -34,20 +35,11 @@ pub fn put_mdcv(out: &mut [u8], at: usize, body: [u8; 24]) -> usize
     put_box(out, at, MDCV, &body)
 }
 
-// How long a cclv body is, by its first byte.
-pub fn cclv_body_len(flags: u8) -> usize
-    ensures { λ r. ⌜ r ≡ cclvBodyLen flags ⌝ }
-    ensures { λ r. ⌜ r ≤ 37 ⌝ }
-{
-    let f = flags as usize;
-    1 + 24 * (f / 32 % 2) + 4 * (f / 16 % 2) + 4 * (f / 8 % 2) + 4 * (f / 4 % 2)
-}
-
 fn put_cclv_of(out: &mut [u8], at: usize, held: &[u8]) -> usize
     requires { ⌜ (length (now held) ≡ 37) × (at + cclvLen (now held) ≤ length (now out)) ⌝ }
     ensures { λ r. ⌜ Wrote (now (out .entry)) at (cclvLen (now (held .entry))) (cclv (now (held .entry))) (now (out .exit)) r ⌝ }
 {
-    let len = cclv_body_len(held[0]);
+    let len = cclv_more(held[0]) + 1;
     put_box(out, at, CCLV, &held[0..len])
 }
 

@@ -1,37 +1,16 @@
-// The blank record, and blank parts of the header.
+// The blank record.
 ghost use mathlib.Core.Path.{_≡_};
-ghost use Rattle.mini.specs.Blank.{blankHdrBoxes, blankGainMap, blankImage};
-ghost use Rattle.reader.specs.Rules.{noGainMap};
+ghost use Rattle.mini.specs.Blank.{blankGainMap, blankImage};
+use header_reader::blank::blank_hdr_boxes;
 use mini::Chunk;
 use mini::ExplicitCicp;
 use mini::ExplicitCodecTypes;
-use mini::GainMapHeader;
 use mini::MiniChroma;
 use mini::MiniGainMap;
-use mini::MiniHdrBoxes;
 use mini::MinimizedImage;
 use mini::SampleFormat;
 use mini::Span;
 use mini::TmapCicp;
-
-pub fn blank_hdr_boxes() -> MiniHdrBoxes
-    ensures { λ r. ⌜ r ≡ blankHdrBoxes ⌝ }
-{
-    MiniHdrBoxes {
-        has_clli: false,
-        has_mdcv: false,
-        has_cclv: false,
-        has_amve: false,
-        has_reve: false,
-        has_ndwt: false,
-        clli: [0; 4],
-        mdcv: [0; 24],
-        cclv: [0; 37],
-        amve: [0; 8],
-        reve: [0; 20],
-        ndwt: [0; 4],
-    }
-}
 
 pub fn blank_gain_map() -> MiniGainMap
     ensures { λ r. ⌜ r ≡ blankGainMap ⌝ }
@@ -57,7 +36,6 @@ pub fn blank_gain_map() -> MiniGainMap
     }
 }
 
-// The blank record.
 pub fn blank_image() -> MinimizedImage
     ensures { λ r. ⌜ r ≡ blankImage ⌝ }
 {
@@ -90,30 +68,5 @@ pub fn blank_image() -> MinimizedImage
         exif_xmp_compressed: false,
         exif: Chunk::Absent,
         xmp: Chunk::Absent,
-    }
-}
-
-// What the header says of a gain map where there is none.
-pub fn no_gain_map() -> GainMapHeader
-    ensures { λ r. ⌜ r ≡ noGainMap ⌝ }
-{
-    GainMapHeader {
-        present: false,
-        same_dimensions: false,
-        width: 0,
-        height: 0,
-        matrix_coefficients: 0,
-        full_range: false,
-        subsampling: 0,
-        chroma: MiniChroma {
-            subsampling: 0,
-            horizontally_centered: false,
-            vertically_centered: false,
-        },
-        float: false,
-        format: SampleFormat::Integer { bits: 0 },
-        tmap_icc: false,
-        tmap_explicit_cicp: false,
-        tmap_cicp: TmapCicp::Absent,
     }
 }

@@ -19,7 +19,7 @@ use mini::MinimizedImage;
 use mini::Reading;
 use mini::Span;
 
-fn chunk_if(on: bool, at: usize, len: usize) -> Chunk
+pub fn chunk_if(on: bool, at: usize, len: usize) -> Chunk
     ensures { λ r. ⌜ r ≡ chunkIf on at len ⌝ }
 {
     if on {

@@ -22,13 +22,10 @@ use Rattle.mini.specs.WellPlaced.{read-placed}
 use Rattle.mini.specs.Write.{payloadOf, writable}
 use Rattle.mini.specs.declared.MinimizedImage.{MinimizedImage}
 use Rattle.writer.specs.Needed.{box-small}
+use Rattle.mini.specs.RecordHeader.{T-true}
 use Rattle.writer.specs.ToBox.{boxOf, refused, written, answer, past-11}
 use Rattle.writer.specs.declared.Written.{Written}
 use Rattle.rewriter.specs.Rewritten.{rewritten, WrittenBack}
-
-T-true : (t : Bool) → T t → t ≡ true
-T-true true h = refl
-T-true false h = absurd h
 
 -- what is read is written: neither 10 nor 11
 pub read-is-written : (p o : List ℕ) → readMini p .refusal ≡ 0 → answer (readMini p .image) p o ≡ written (readMini p .image) p o

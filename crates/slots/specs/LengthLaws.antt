@@ -43,7 +43,7 @@ length-only : (t : Bool) (box : List ℕ) (n : ℕ) → length box ≡ n → len
 length-only true box n e = e
 length-only false box n e = length-free
 
-length-span : (x : Span) (s : List ℕ) → SpanPlaced x s → length (spanBytes x s) ≡ x .len
+pub length-span : (x : Span) (s : List ℕ) → SpanPlaced x s → length (spanBytes x s) ≡ x .len
 length-span x s p = length-take-le (x .len) (drop (x .at) s) (simp length-drop (omega arith))
 
 length-config : (types : ExplicitCodecTypes) (x : Span) (s : List ℕ) → SpanPlaced x s → length (slotBytes (configSlot types x s)) ≡ configSlotLen x

@@ -5,7 +5,6 @@ ghost use mathlib.Core.List.{[], _∷_};
 ghost use Prim.Native.Nat.{_+_, _≤_, _<_};
 ghost use lib.ListN.{length};
 ghost use Rattle.octets.specs.Overwrite.{Wrote};
-ghost use Rattle.mini.specs.Views.{hasTmapCicp};
 ghost use Rattle.slots.specs.Associations.{isKept, kept, row, rowIf, one, rowCount, ipmaBody, ipmaWith};
 ghost use Rattle.slots.specs.Lengths.{rowLen, rowIfLen, ipmaBodyLen, ipmaLen};
 ghost use Rattle.slots.specs.Used.{isTurned, usedSlots};
@@ -20,7 +19,6 @@ use boxes::put_box_header;
 use boxes::put_full_box_header;
 use mini::ItemKind;
 use mini::MinimizedImage;
-use mini::TmapCicp;
 use octets::put_u8;
 use octets::put_u16;
 use octets::put_u32;
@@ -78,20 +76,6 @@ fn is_turned(turn: Turn) -> bool
     }
 }
 
-pub fn has_tmap_cicp(cicp: TmapCicp) -> bool
-    ensures { λ r. ⌜ r ≡ hasTmapCicp cicp ⌝ }
-{
-    match cicp {
-        TmapCicp::Absent => false,
-        TmapCicp::Present {
-            primaries: _,
-            transfer: _,
-            matrix: _,
-            full_range: _,
-        } => true,
-    }
-}
-
 // Which slots are used, by number; 0 is none.
 pub fn used_slots(image: MinimizedImage) -> [bool; 33]
     requires { ⌜ Bounded image ⌝ }
@@ -116,7 +100,7 @@ pub fn used_slots(image: MinimizedImage) -> [bool; 33]
     let tmap = image.has_gain_map;
     let profile = icc.is_present();
     let tmap_profile = tmap_icc.is_present();
-    let told = has_tmap_cicp(tmap_cicp);
+    let told = tmap_cicp.is_present();
     let rotated = is_turned(angle);
     let mirrored = is_turned(axis);
     let s6 = both(alpha, 0 < alpha_config.len);

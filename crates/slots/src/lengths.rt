@@ -14,7 +14,6 @@ use crate::associations::ALPHA_ROW;
 use crate::associations::GAIN_MAP_ROW;
 use crate::associations::MAIN_ROW;
 use crate::associations::TMAP_ROW;
-use crate::associations::has_tmap_cicp;
 use crate::associations::kept_len;
 use crate::associations::used_slots;
 use crate::groups::config_or;
@@ -25,8 +24,8 @@ use mini::Chunk;
 use mini::MiniChroma;
 use mini::MiniHdrBoxes;
 use mini::MinimizedImage;
+use mini::cclv_more;
 use properties::Turn;
-use properties::hdr_boxes::cclv_body_len;
 use properties::orientation::turns_of;
 
 fn pick(first: bool, a: usize, b: usize) -> usize
@@ -108,7 +107,7 @@ fn orientation_len(image: MinimizedImage) -> usize
 fn cclv_len(held: [u8; 37]) -> usize
     ensures { λ r. ⌜ (r ≡ cclvLen held) × (r ≤ 45) ⌝ }
 {
-    8 + cclv_body_len(held[0])
+    9 + cclv_more(held[0])
 }
 
 fn hdr_len(h: MiniHdrBoxes) -> usize
@@ -145,7 +144,7 @@ fn tmap_len(image: MinimizedImage) -> usize
     let g = image.gain_map;
     let cicp = g.tmap_cicp;
     let icc = g.tmap_icc;
-    let told = has_tmap_cicp(cicp);
+    let told = cicp.is_present();
     let profile = icc.is_present();
     let coloured = either(told, !profile);
     let colour = only_if_len(coloured, 19);

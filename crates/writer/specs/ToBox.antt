@@ -7,7 +7,7 @@ use native.Mathlib.Omega.{arith}
 use lib.Dec.{T, eqb, ltb}
 use lib.Pow.{pow-pos}
 use lib.ListN.{length, take, drop}
-use borrow.Author.Tests.{lt-ltb}
+use borrow.Author.Tests.{lt-ltb, not-true, not-false}
 use Rattle.octets.specs.Overwrite.{overwrite}
 use Rattle.octets.specs.OverwriteLaws as octets-laws
 use Rattle.boxes.specs.Boxed.{boxed}
@@ -119,28 +119,20 @@ header-of i h ea eg ef et =
     }
 
 -- ---- the ways through the answer, by what the code tests: that the record is not well placed, that it is not writable
-off-of : (t : Bool) → not t ≡ true → t ≡ false
-off-of true e = sym e
-off-of false e = refl
-
-on-of : (t : Bool) → not t ≡ false → t ≡ true
-on-of true e = refl
-on-of false e = sym e
-
 module _ (i : MinimizedImage) (s o : List ℕ) {p : Bool} (placed : p ≡ wellPlaced i s) where
   pub at-10 : not p ≡ true → refused 10 0 o ≡ answer i s o
   unfolding answer
-  at-10 e = sym (ap (λ (t : Bool). cond t (cond (writable i) (written i s o) (refused 11 0 o)) (refused 10 0 o)) (sym placed ∙ off-of p e))
+  at-10 e = sym (ap (λ (t : Bool). cond t (cond (writable i) (written i s o) (refused 11 0 o)) (refused 10 0 o)) (sym placed ∙ not-true p e))
 
   pub at-11 : {w : Bool} → not p ≡ false → w ≡ writable i → not w ≡ true → refused 11 0 o ≡ answer i s o
   unfolding answer
   at-11 {w} e f g =
-      sym (ap₂ (λ (t u : Bool). cond t (cond u (written i s o) (refused 11 0 o)) (refused 10 0 o)) (sym placed ∙ on-of p e) (sym f ∙ off-of w g))
+      sym (ap₂ (λ (t u : Bool). cond t (cond u (written i s o) (refused 11 0 o)) (refused 10 0 o)) (sym placed ∙ not-false p e) (sym f ∙ not-true w g))
 
   pub past-11 : {w : Bool} → not p ≡ false → w ≡ writable i → not w ≡ false → written i s o ≡ answer i s o
   unfolding answer
   past-11 {w} e f g =
-      sym (ap₂ (λ (t u : Bool). cond t (cond u (written i s o) (refused 11 0 o)) (refused 10 0 o)) (sym placed ∙ on-of p e) (sym f ∙ on-of w g))
+      sym (ap₂ (λ (t u : Bool). cond t (cond u (written i s o) (refused 11 0 o)) (refused 10 0 o)) (sym placed ∙ not-false p e) (sym f ∙ not-false w g))
 
 pub taken-on : (i : MinimizedImage) {w : Bool} → w ≡ writable i → not w ≡ false → T (writable i)
-taken-on i {w} f g = subst T (sym (on-of w g) ∙ f) tt
+taken-on i {w} f g = subst T (sym (not-false w g) ∙ f) tt

@@ -1,28 +1,10 @@
-use native.Mathlib.Omega.{arith}
-use Rattle.layout.specs.HeaderBytes.{length-headerBytes}
-use Rattle.exports.specs.AnswerLaws.{refuses, lacks-room, hands-out}
 use borrow.Author.Needs.{needs}
 use Rattle.exports.proofs.bustardcase_box_header.Statement.{statement}
 use Rattle.exports.proofs.bustardcase_box_header.Tie as tie
 
 returns : tie.Need-returns
-returns c = rw (← (c .before .before .before .parse-box-header .ensures)) (refuses (λ e. omega arith) (c .refused .ensures))
-
-returns-2 : tie.Need-returns-2
-returns-2 c = rw (← (c .before .before .before .before .parse-box-header .ensures)) (lacks-room (omega arith) (length-headerBytes _) (omega arith) (c .too-short .ensures))
-
-returns-3 : tie.Need-returns-3
-returns-3 c = rw (← (c .before .before .before .before .before .before .before .parse-box-header .ensures)) (hands-out (omega arith) (c .before .before .put-header .ensures) (omega arith))
+returns c = rw (← (c .before .before .before .before .parse-box-header .ensures)) (c .before .before .answer-header .ensures)
 
 pub bustardcase-box-header-spec : {M : Type 1} → statement M
 bustardcase-box-header-spec =
-    tie.close
-    (tie.spec
-    (λ c κs. search needs)
-    (λ c κs. search needs)
-    returns
-    (λ c κs. search needs)
-    returns-2
-    (λ c κs. search needs)
-    (λ c. search needs)
-    returns-3)
+    tie.close (tie.spec (λ c κs. search needs) (λ c κs. search needs) (λ c. search needs) returns)

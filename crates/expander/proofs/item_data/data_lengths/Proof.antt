@@ -11,8 +11,8 @@ returns c = λ j.
       «tone_map» = c .before .before .before .before .before .len-if .ensures .0 j;
       «gain_map» = c .before .before .before .len-if2 .ensures .0 j;
       main = c .before .before .before .before .before .before .before .before .before .before .args .image .«main_data» .len;
-      exif = c .before .chunk-len .ensures j;
-      xmp = c .chunk-len2 .ensures j;
+      exif = c .before .len .ensures j;
+      xmp = c .len2 .ensures j;
     }
 
 pub data-lengths-spec : {M : Type 1} → statement M

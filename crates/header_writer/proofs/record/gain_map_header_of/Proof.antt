@@ -6,7 +6,7 @@ use Rattle.header_writer.proofs.record.gain_map_header_of.Tie as tie
 
 returns : tie.Need-returns
 unfolding headerOf headerWith least
-returns c = simp (c .has-tmap-cicp .ensures, c .before .is-present .ensures, c .before .before .is-float .ensures, c .before .before .before .before .both2 .ensures, c .before .before .before .before .before .both .ensures)
+returns c = simp (c .is-present2 .ensures, c .before .is-present .ensures, c .before .before .is-float .ensures, c .before .before .before .before .both2 .ensures, c .before .before .before .before .before .both .ensures)
 
 pub gain-map-header-of-spec : {M : Type 1} → statement M
 gain-map-header-of-spec =

@@ -6,13 +6,12 @@ use Rattle.layout.proofs.record.put_colour.Tie as tie
 
 returns : tie.Need-returns
 unfolding colourBytes
-returns c = then (then (then (then (c .before .before .before .before .before .before .before .before .before .before .before .before .before .before .before .before .before .before .put-cicp .ensures) (c .before .before .before .before .before .before .before .before .before .before .before .before .before .before .put-chunk .ensures)) (c .before .before .before .before .before .before .before .before .before .before .put-flag .ensures)) (c .before .before .before .before .before .before .put-flag2 .ensures)) (c .before .before .put-flag3 .ensures)
+returns c = then (then (then (c .before .before .before .before .before .before .before .before .before .before .before .before .before .before .put-u8 .ensures) (c .before .before .before .before .before .before .before .before .before .before .put-u82 .ensures)) (c .before .before .before .before .before .before .put-u83 .ensures)) (c .before .before .put-u84 .ensures)
 
 pub put-colour-spec : {M : Type 1} → statement M
 put-colour-spec =
     tie.close
     (tie.spec
-    (λ c κs. search needs)
     (λ c κs. search needs)
     (λ c κs. search needs)
     (λ c κs. search needs)

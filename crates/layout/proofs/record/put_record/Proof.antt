@@ -6,7 +6,7 @@ use Rattle.layout.proofs.record.put_record.Tie as tie
 
 returns : tie.Need-returns
 unfolding recordBytes
-returns c = then (then (then (then (then (c .before .before .before .before .before .before .before .before .before .before .before .before .before .before .before .before .before .before .before .before .before .before .put-picture .ensures) (c .before .before .before .before .before .before .before .before .before .before .before .before .before .before .before .before .before .before .put-colour .ensures)) (c .before .before .before .before .before .before .before .before .before .before .before .before .before .before .put-hdr-boxes .ensures)) (c .before .before .before .before .before .before .before .before .before .before .put-flag .ensures)) (c .before .before .before .before .before .before .put-gain-map .ensures)) (c .before .before .put-items .ensures)
+returns c = then (then (then (then (then (c .before .before .before .before .before .before .before .before .before .before .before .before .before .before .before .before .before .before .before .before .before .before .put-picture .ensures) (c .before .before .before .before .before .before .before .before .before .before .before .before .before .before .before .before .before .before .put-colour-and-alpha .ensures)) (c .before .before .before .before .before .before .before .before .before .before .before .before .before .before .put-hdr-boxes-if .ensures)) (c .before .before .before .before .before .before .before .before .before .before .put-flag .ensures)) (c .before .before .before .before .before .before .put-gain-map-if .ensures)) (c .before .before .put-items .ensures)
 
 pub put-record-spec : {M : Type 1} → statement M
 put-record-spec =

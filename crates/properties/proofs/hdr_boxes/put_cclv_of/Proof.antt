@@ -1,6 +1,7 @@
 use mathlib.Core.Path.{_≡_}
-use Prim.Native.Nat.{_-_}
+use Prim.Native.Nat.{_+_, _-_}
 use native.Mathlib.Omega.{arith}
+use Rattle.mini.specs.Cclv.{cclvLength}
 use Rattle.properties.specs.HdrBoxes.{cclv}
 use Rattle.properties.proofs.Laws.{length-first}
 use borrow.Author.Needs.{needs}
@@ -10,9 +11,12 @@ use Rattle.properties.proofs.hdr_boxes.put_cclv_of.Tie as tie
 returns : tie.Need-returns
 unfolding cclv
 returns c =
-    let z : c .before .before .before .before .before .cclv-body-len .result - 0 ≡ c .before .before .before .before .before .cclv-body-len .result = omega arith in
-    let h = length-first (c .before .before .before .before .before .before .before .before .before .args .held .now) (c .before .before .before .before .before .cclv-body-len .result) (omega arith) in
-    rw (z, h, c .before .before .before .before .before .cclv-body-len .ensures .0) at (c .before .before .put-box .ensures)
+    let held = c .before .before .before .before .before .before .before .before .before .args .held .now in
+    let more = c .before .before .before .before .before .cclv-more in
+    let z : more .result + 1 - 0 ≡ more .result + 1 = omega arith in
+    let e : more .result + 1 ≡ cclvLength held = omega (arith, more .ensures .0) in
+    let h = length-first held (more .result + 1) (omega (arith, more .ensures .1)) in
+    rw (z, h, e) at (c .before .before .put-box .ensures)
 
 pub put-cclv-of-spec : {M : Type 1} → statement M
 put-cclv-of-spec =
@@ -20,6 +24,7 @@ put-cclv-of-spec =
     (tie.spec
     (λ c. search needs)
     (λ c κs. search needs)
+    (λ c. search needs)
     (λ c. search needs)
     (λ c. search needs)
     (λ c. search needs)

@@ -1,0 +1,29 @@
+// The desk check of a record as bytes: docs/ABI.md has the layout.
+ghost use Prim.Native.Nat.{_+_, _≤_};
+ghost use lib.ListN.{length};
+ghost use Rattle.octets.specs.Overwrite.{Wrote};
+ghost use Rattle.layout.specs.CheckBytes.{checkParts, checkBytes};
+use crate::record::put_flag;
+use mini::DisplayConditions;
+use mini::MinimizedImage;
+
+fn put_parts(out: &mut [u8], at: usize, meets: bool, d: DisplayConditions) -> usize
+    requires { ⌜ at + 6 ≤ length (now out) ⌝ }
+    ensures { λ r. ⌜ Wrote (now (out .entry)) at 6 (checkParts meets d) (now (out .exit)) r ⌝ }
+{
+    let a = put_flag(out, at, meets);
+    let b = put_flag(out, a, d.integer_samples);
+    let c = put_flag(out, b, d.no_gain_map);
+    let e = put_flag(out, c, d.exif_present);
+    let f = put_flag(out, e, d.width_fits);
+    put_flag(out, f, d.height_fits)
+}
+
+pub fn put_check(out: &mut [u8], at: usize, i: MinimizedImage) -> usize
+    requires { ⌜ at + 6 ≤ length (now out) ⌝ }
+    ensures { λ r. ⌜ Wrote (now (out .entry)) at 6 (checkBytes i) (now (out .exit)) r ⌝ }
+{
+    let meets = i.meets_display_profile();
+    let conditions = i.display_conditions();
+    put_parts(out, at, meets, conditions)
+}
