@@ -25,11 +25,11 @@ fn flags_of(i: MinimizedImage) -> Flags
     ensures { λ r. ⌜ r ≡ headerOf i .flags ⌝ }
 {
     let types = i.explicit_codec_types;
-    let explicit_codec_types = crate::header::has_codec_types(types);
+    let explicit_codec_types = types.is_present();
     let format = i.format;
     let float = format.is_float();
     let cicp = i.explicit_cicp;
-    let explicit_cicp = crate::header::has_cicp(cicp);
+    let explicit_cicp = cicp.is_present();
     let icc_chunk = i.icc;
     let icc = icc_chunk.is_present();
     let exif_chunk = i.exif;

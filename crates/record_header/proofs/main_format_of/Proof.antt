@@ -1,9 +1,9 @@
--- `header_writer::record::main_format_of` meets its contract. Assumes nothing.
+-- `record_header::main_format_of` meets its contract. Assumes nothing.
 use mathlib.Core.Path.{refl}
 use Rattle.mini.specs.Write.{headerOf, headerWith, least}
 use borrow.Author.Needs.{needs}
-use Rattle.header_writer.proofs.record.main_format_of.Statement.{statement}
-use Rattle.header_writer.proofs.record.main_format_of.Tie as tie
+use Rattle.record_header.proofs.main_format_of.Statement.{statement}
+use Rattle.record_header.proofs.main_format_of.Tie as tie
 
 returns : tie.Need-returns
 unfolding headerOf headerWith least

@@ -1,8 +1,8 @@
--- `header_writer::record::dimensions_of` meets its contract. Assumes nothing.
+-- `record_header::dimensions_of` meets its contract. Assumes nothing.
 use Rattle.mini.specs.Write.{headerOf, headerWith, least}
 use borrow.Author.Needs.{needs}
-use Rattle.header_writer.proofs.record.dimensions_of.Statement.{statement}
-use Rattle.header_writer.proofs.record.dimensions_of.Tie as tie
+use Rattle.record_header.proofs.dimensions_of.Statement.{statement}
+use Rattle.record_header.proofs.dimensions_of.Tie as tie
 
 returns : tie.Need-returns
 unfolding headerOf headerWith least

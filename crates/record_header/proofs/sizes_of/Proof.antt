@@ -1,8 +1,8 @@
--- `header_writer::record::sizes_of` meets its contract. Assumes nothing.
+-- `record_header::sizes_of` meets its contract. Assumes nothing.
 use Rattle.mini.specs.Write.{headerOf, headerWith, least}
 use borrow.Author.Needs.{needs}
-use Rattle.header_writer.proofs.record.sizes_of.Statement.{statement}
-use Rattle.header_writer.proofs.record.sizes_of.Tie as tie
+use Rattle.record_header.proofs.sizes_of.Statement.{statement}
+use Rattle.record_header.proofs.sizes_of.Tie as tie
 
 returns : tie.Need-returns
 unfolding headerOf headerWith least
