@@ -7,7 +7,6 @@ use bits::both;
 use bits::either;
 use boxes::UUID;
 use ftyp::allowed;
-use header_writer::header::has_codec_types;
 use mini::ExplicitCodecTypes;
 use mini::MinimizedImage;
 use writer::checks::well_placed;
@@ -61,7 +60,7 @@ pub fn refusal_of(image: MinimizedImage, source: &[u8], brands: &[u8]) -> usize
     let native = both(image.alpha, alpha_data.len == 0);
     let types = image.explicit_codec_types;
     let uuid = is_uuid(types);
-    let typed = has_codec_types(types);
+    let typed = types.is_present();
     let branded = allowed(brands);
     first(!placed, !writable, native, uuid, !typed, !branded)
 }

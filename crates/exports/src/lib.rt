@@ -11,7 +11,7 @@ ghost use Rattle.mini.specs.Read.{readMini};
 ghost use Rattle.layout.specs.CheckBytes.{checkBytes};
 ghost use Rattle.layout.specs.FileTypeBytes.{fileTypeBytes};
 ghost use Rattle.layout.specs.HeaderBytes.{headerBytes};
-ghost use Rattle.layout.specs.RecordBytes.{recordBytes};
+ghost use Rattle.record_layout.specs.RecordBytes.{recordBytes};
 ghost use Rattle.writer.specs.ToBox.{boxOf};
 use boxes::HeaderRead;
 use boxes::find::find_box;
@@ -21,9 +21,9 @@ use ftyp::read::read_file_type;
 use layout::check::put_check;
 use layout::file_type::put_file_type;
 use layout::header::put_header;
-use layout::record::put_record;
-use layout::record::record_len;
 use reader::parse;
+use record_layout::put_record;
+use record_layout::record_len;
 use rewriter::rewrite;
 
 // Hands out the header that was read, or refuses.

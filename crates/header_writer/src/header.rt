@@ -7,7 +7,7 @@ ghost use Rattle.bit_writer.specs.Writer.{Puts};
 ghost use lib.ListN.{length};
 ghost use Rattle.mini.specs.declared.SampleFormat.the-variants.{Integer};
 ghost use Rattle.mini.specs.Syntax.{flags, dimensions, chroma, floatFormat, integerFormat, sampleFormat, explicitCicp, explicitCodecTypes, mainFormat, tmapCicp, gainMapDimension, gainMapFormat, gainMapHeader, cclv, cclvFor, hdrBoxes, chunkSizes, header};
-ghost use Rattle.mini.specs.Views.{bitsIn, isFormat, floatTo, floatCode, cicpFrom, hasCicp, codecTypesFrom, hasCodecTypes, tmapCicpFrom};
+ghost use Rattle.mini.specs.Views.{bitsIn, isFormat, floatTo, floatCode, cicpFrom, codecTypesFrom, tmapCicpFrom};
 use bit_writer::BitWriter;
 use bit_writer::zeros;
 use mini::ChunkSizes;
@@ -137,19 +137,6 @@ pub struct CicpFields {
     pub matrix: u8,
 }
 
-pub fn has_cicp(c: ExplicitCicp) -> bool
-    ensures { λ r. ⌜ r ≡ hasCicp c ⌝ }
-{
-    match c {
-        ExplicitCicp::Absent => false,
-        ExplicitCicp::Present {
-            primaries: _,
-            transfer: _,
-            matrix: _,
-        } => true,
-    }
-}
-
 fn cicp_fields(c: ExplicitCicp) -> CicpFields
     ensures { λ r. ⌜ (r .primaries, (r .transfer, r .matrix)) ≡ cicpFrom c ⌝ }
 {
@@ -174,7 +161,7 @@ fn cicp_fields(c: ExplicitCicp) -> CicpFields
 pub fn put_explicit_cicp(w: BitWriter, out: &mut [u8], on: bool, c: ExplicitCicp) -> BitWriter
     ensures { λ r. ⌜ Puts (explicitCicp on) (now (out .entry)) w c (now (out .exit)) r ⌝ }
 {
-    let present = has_cicp(c);
+    let present = c.is_present();
     if on {
         let f = cicp_fields(c);
         let w1 = w.put(out, 8, f.primaries as usize);
@@ -189,18 +176,6 @@ pub fn put_explicit_cicp(w: BitWriter, out: &mut [u8], on: bool, c: ExplicitCicp
 pub struct CodecTypeFields {
     pub infe_type: u32,
     pub codec_config_type: u32,
-}
-
-pub fn has_codec_types(c: ExplicitCodecTypes) -> bool
-    ensures { λ r. ⌜ r ≡ hasCodecTypes c ⌝ }
-{
-    match c {
-        ExplicitCodecTypes::Absent => false,
-        ExplicitCodecTypes::Present {
-            infe_type: _,
-            codec_config_type: _,
-        } => true,
-    }
 }
 
 fn codec_type_fields(c: ExplicitCodecTypes) -> CodecTypeFields
@@ -224,7 +199,7 @@ fn codec_type_fields(c: ExplicitCodecTypes) -> CodecTypeFields
 pub fn put_codec_types(w: BitWriter, out: &mut [u8], on: bool, c: ExplicitCodecTypes) -> BitWriter
     ensures { λ r. ⌜ Puts (explicitCodecTypes on) (now (out .entry)) w c (now (out .exit)) r ⌝ }
 {
-    let present = has_codec_types(c);
+    let present = c.is_present();
     if on {
         let f = codec_type_fields(c);
         let w1 = w.put(out, 32, f.infe_type as usize);

@@ -1,3 +1,2 @@
-// A record's header: its values in their narrowest forms, and its bits.
+// A header's bits.
 pub mod header;
-pub mod record;

@@ -8,8 +8,7 @@ use lib.ListN.{length, length-append}
 use Rattle.mini.specs.DisplayProfile.{displayConditions, meetsDisplayProfile}
 use Rattle.mini.specs.declared.DisplayConditions.{DisplayConditions}
 use Rattle.mini.specs.declared.MinimizedImage.{MinimizedImage}
-use Rattle.layout.specs.RecordBytes.{flagBytes}
-use Rattle.layout.specs.RecordLength.{length-flag}
+use Rattle.layout.specs.PartBytes.{flagBytes, length-flag}
 
 unfoldable pub checkParts : Bool → DisplayConditions → List ℕ
 checkParts meets d =

@@ -8,8 +8,7 @@ use Rattle.octets.specs.BigEndian.{be}
 use Rattle.octets.specs.BigEndianLaws.{length-be}
 use Rattle.ftyp.specs.declared.FileTypeRead.{FileTypeRead}
 use Rattle.mini.specs.declared.Span.{Span}
-use Rattle.layout.specs.RecordBytes.{spanBytes}
-use Rattle.layout.specs.RecordLength.{length-span}
+use Rattle.layout.specs.PartBytes.{spanBytes, length-span}
 
 abbrev pub brandsSpan : FileTypeRead → Span
 brandsSpan t = record { at = t .«brands_at»; len = t .«brands_len» }

@@ -1,5 +1,4 @@
+pub mod PartBytes
 pub mod HeaderBytes
-pub mod RecordBytes
-pub mod RecordLength
 pub mod CheckBytes
 pub mod FileTypeBytes

@@ -3,7 +3,7 @@ ghost use Prim.Native.Nat.{_+_, _≤_};
 ghost use lib.ListN.{length};
 ghost use Rattle.octets.specs.Overwrite.{Wrote};
 ghost use Rattle.layout.specs.CheckBytes.{checkParts, checkBytes};
-use crate::record::put_flag;
+use crate::part::put_flag;
 use mini::DisplayConditions;
 use mini::MinimizedImage;
 

@@ -3,7 +3,7 @@ ghost use Prim.Native.Nat.{_+_, _≤_};
 ghost use lib.ListN.{length};
 ghost use Rattle.octets.specs.Overwrite.{Wrote};
 ghost use Rattle.layout.specs.FileTypeBytes.{fileTypeBytes};
-use crate::record::put_span;
+use crate::part::put_span;
 use ftyp::FileTypeRead;
 use mini::Span;
 use octets::put_u32;

@@ -1,5 +1,5 @@
-// Box headers, file types, records and their desk check as bytes in a fixed layout (docs/ABI.md), for what crosses to C and Rust.
+// Box headers, file types and the desk check as bytes in a fixed layout (docs/ABI.md), for what crosses to C and Rust.
 pub mod check;
 pub mod file_type;
 pub mod header;
-pub mod record;
+pub mod part;

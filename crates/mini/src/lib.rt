@@ -6,7 +6,7 @@ ghost use Rattle.mini.specs.Chunks.{isPresent};
 ghost use Rattle.mini.specs.Cicp.{tableCicp, cicpOf};
 ghost use Rattle.mini.specs.DisplayProfile.{displayConditions, meetsDisplayProfile};
 ghost use Rattle.mini.specs.Same.{chunkLen};
-ghost use Rattle.mini.specs.Views.{isFloat, hasTmapCicp};
+ghost use Rattle.mini.specs.Views.{isFloat, hasCicp, hasCodecTypes, hasTmapCicp};
 
 pub enum SampleFormat {
     Integer { bits: u8 },
@@ -272,6 +272,35 @@ impl Chunk {
         match self {
             Chunk::Absent => 0,
             Chunk::Present { at: _, len } => len,
+        }
+    }
+}
+
+impl ExplicitCodecTypes {
+    pub fn is_present(self) -> bool
+        ensures { λ r. ⌜ r ≡ hasCodecTypes self ⌝ }
+    {
+        match self {
+            ExplicitCodecTypes::Absent => false,
+            ExplicitCodecTypes::Present {
+                infe_type: _,
+                codec_config_type: _,
+            } => true,
+        }
+    }
+}
+
+impl ExplicitCicp {
+    pub fn is_present(self) -> bool
+        ensures { λ r. ⌜ r ≡ hasCicp self ⌝ }
+    {
+        match self {
+            ExplicitCicp::Absent => false,
+            ExplicitCicp::Present {
+                primaries: _,
+                transfer: _,
+                matrix: _,
+            } => true,
         }
     }
 }

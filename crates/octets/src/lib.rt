@@ -70,12 +70,12 @@ pub fn put_zeros(out: &mut [u8], at: usize, n: usize) -> usize
     requires { ⌜ at + n ≤ length (now out) ⌝ }
     ensures { λ r. ⌜ Wrote (now (out .entry)) at n (replicate n 0) (now (out .exit)) r ⌝ }
 {
-    let mut j = 0;
-    while j < n {
-        out[at + j] = 0;
-        j += 1;
+    let mut i = 0;
+    while i < n {
+        out[at + i] = 0;
+        i += 1;
     }
-    at + j
+    at + i
 }
 
 fn wide(x: u8) -> u16

@@ -6,8 +6,7 @@ use Prim.Native.Nat.{ℕ}
 use lib.ListN.{length, length-append}
 use Rattle.octets.specs.BigEndian.{be}
 use Rattle.octets.specs.BigEndianLaws.{length-be}
-use Rattle.layout.specs.RecordBytes.{chunkBytes}
-use Rattle.layout.specs.RecordLength.{length-chunk}
+use Rattle.layout.specs.PartBytes.{chunkBytes, length-chunk}
 use Rattle.mini.specs.Cut.{joined, joined-append}
 use Rattle.mini.specs.Read.{readMini}
 use Rattle.mini.specs.declared.Chunk.{Chunk}

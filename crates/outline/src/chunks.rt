@@ -7,7 +7,7 @@ ghost use Rattle.octets.specs.Overwrite.{Wrote};
 ghost use Rattle.mini.specs.Same.{chunkLen};
 ghost use Rattle.outline.specs.Chunks.{givenOrder, storedOrder, spanChunk, chunksEnd};
 ghost use Rattle.outline.specs.OutlineBytes.{entry, entries};
-use layout::record::put_chunk;
+use layout::part::put_chunk;
 use mini::Chunk;
 use mini::MinimizedImage;
 use mini::Span;

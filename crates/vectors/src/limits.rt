@@ -2,12 +2,12 @@
 ghost use Prim.Native.Nat.{_<_};
 use crate::print::print;
 use crate::print::print_number;
-use header_writer::record::header_of;
 use mini::Chunk;
 use mini::MiniGainMap;
 use mini::MinimizedImage;
 use mini::Span;
 use reader::parse;
+use record_header::header_of;
 use writer::is_writable;
 
 enum Field {

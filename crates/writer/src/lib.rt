@@ -11,9 +11,9 @@ use bit_writer::BitWriter;
 use bits::both;
 use boxes::FourCc;
 use header_writer::header::put_header;
-use header_writer::record::header_of;
-use header_writer::record::not_empty;
 use mini::MinimizedImage;
+use record_header::header_of;
+use record_header::not_empty;
 
 const MINI: FourCc = 0x6D696E69;
 

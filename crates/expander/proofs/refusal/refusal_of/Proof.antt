@@ -16,7 +16,7 @@ returns c = (
       ∷ (not (c .before .before .before .before .before .before .before .is-writable .ensures j), 11)
       ∷ (c .before .before .before .before .both .ensures j, 12)
       ∷ (c .before .before .before .is-uuid .ensures j, 13)
-      ∷ (not (c .before .before .has-codec-types .ensures j), 14)
+      ∷ (not (c .before .before .is-present .ensures j), 14)
       ∷ (not (c .before .allowed .ensures j), 15)
       ∷ [])),
   c .first .ensures .1,
