@@ -8,6 +8,7 @@ mod help;
 mod json;
 mod payloads;
 mod pipes;
+mod readme;
 mod script;
 mod show;
 mod writing;
