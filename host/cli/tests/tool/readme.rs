@@ -17,7 +17,7 @@ fn root() -> PathBuf {
 }
 
 /// The README's command lines, which are indented and begin with '$', each with what is indented after it.
-fn sessions() -> Vec<Shown> {
+fn commands() -> Vec<Shown> {
     let text = fs::read_to_string(root().join("README.md")).expect("README.md");
     let mut shown: Vec<Shown> = Vec::new();
     let mut within = false;
@@ -89,7 +89,7 @@ fn the_readme_shows_what_the_tool_prints() {
     for Shown {
         line,
         printed: shown,
-    } in sessions()
+    } in commands()
     {
         if !line.contains("./bustardcase") {
             continue;
