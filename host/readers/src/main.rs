@@ -6,10 +6,8 @@ mod case;
 mod expect;
 mod facts;
 mod findings;
-mod library;
 mod model;
 mod pictures;
-mod record;
 mod samples;
 mod tools;
 

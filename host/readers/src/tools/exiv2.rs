@@ -28,10 +28,10 @@ fn expected(case: &Case) -> Facts {
             facts.say(size_name(i), format!("{width}, {height}"));
         }
     }
-    if case.record.exif().is_some() {
+    if case.record.exif.is_some() {
         facts.say("Exif.Image.Make", pictures::MAKE);
     }
-    if case.record.xmp().is_some() {
+    if case.record.xmp.is_some() {
         facts.say("Xmp.dc.source", pictures::SOURCE);
     }
     facts

@@ -11,7 +11,7 @@ pub const TOOL: Tool = Tool {
     name: "heif-convert",
     program: "heif-convert",
     version: &["--help"],
-    takes: |case| case.record.main_data() == pictures::AV1_420.data,
+    takes: |case| case.bytes(case.record.main_data) == pictures::AV1_420.data,
     expected,
     reported,
 };
@@ -31,8 +31,8 @@ const SHOWN: [[usize; 4]; 8] = [
 
 fn expected(case: &Case) -> Facts {
     let mut facts = Facts::opened();
-    let (width, height) = (case.record.width(), case.record.height());
-    let orientation = case.record.orientation();
+    let (width, height) = (case.record.width, case.record.height);
+    let orientation = case.record.orientation;
     let (width, height) = if orientation > 4 {
         (height, width)
     } else {
