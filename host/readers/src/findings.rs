@@ -8,7 +8,7 @@ use crate::model::{Code, MAIN};
 
 pub struct Finding {
     pub tool: &'static str,
-    /// The versions with which it was seen, by their first characters. With others it may be gone.
+    /// The known versions with which it was seen, as `Tool::known` has them. With others it may be gone.
     pub seen_with: &'static [&'static str],
     /// The files that show it: all of them must.
     pub files: fn(&Case) -> bool,

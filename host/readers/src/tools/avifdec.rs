@@ -12,6 +12,7 @@ pub const TOOL: Tool = Tool {
     name: "avifdec --info",
     program: "avifdec",
     version: &["--version"],
+    known: &["0.11.", "1.2."],
     takes: |case| case.model.major == *b"avif",
     expected,
     reported,

@@ -11,6 +11,7 @@ pub const TOOL: Tool = Tool {
     name: "exiftool",
     program: "exiftool",
     version: &["-ver"],
+    known: &["12.57", "13.25"],
     takes: every_file,
     expected,
     reported,

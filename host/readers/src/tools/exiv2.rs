@@ -10,6 +10,7 @@ pub const TOOL: Tool = Tool {
     name: "exiv2",
     program: "exiv2",
     version: &["--version"],
+    known: &["0.27.6", "0.28.5"],
     takes: every_file,
     expected,
     reported,

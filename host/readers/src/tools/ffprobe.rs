@@ -11,6 +11,7 @@ pub const TOOL: Tool = Tool {
     name: "ffprobe",
     program: "ffprobe",
     version: &["-version"],
+    known: &["5.1.", "7.1."],
     takes: |case| case.model.major == *b"avif" && case.sample.decodable,
     expected,
     reported,

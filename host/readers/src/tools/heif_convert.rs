@@ -1,7 +1,7 @@
 //! libheif's heif-convert: which way up the picture is shown. The picture has four quarters, each
 //! brighter than the one before; the record's orientation is Exif's, which says where they go.
 
-use super::{Tool, run};
+use super::{LIBHEIF, Tool, run};
 use crate::case::Case;
 use crate::facts::{Facts, list};
 use crate::pictures;
@@ -11,6 +11,7 @@ pub const TOOL: Tool = Tool {
     name: "heif-convert",
     program: "heif-convert",
     version: &["--help"],
+    known: LIBHEIF,
     takes: |case| case.bytes(case.record.main_data) == pictures::AV1_420.data,
     expected,
     reported,

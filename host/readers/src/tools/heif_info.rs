@@ -1,6 +1,6 @@
 //! libheif's heif-info: the picture as a user sees it.
 
-use super::{Answer, Tool, cut, every_file, run};
+use super::{Answer, LIBHEIF, Tool, cut, every_file, run};
 use crate::case::Case;
 use crate::expect::{self, item_byte, item_size};
 use crate::facts::{Facts, list};
@@ -11,6 +11,7 @@ pub const TOOL: Tool = Tool {
     name: "heif-info",
     program: "heif-info",
     version: &["--help"],
+    known: LIBHEIF,
     takes: every_file,
     expected,
     reported,
