@@ -1,15 +1,14 @@
 //! A file to open, with what its record says.
 
-use crate::library;
 use crate::model::Model;
-use crate::record::Record;
 use crate::samples::Sample;
+use bustardcase::{Chunk, MinimizedImage};
 use std::fs;
 use std::path::Path;
 
 pub struct Case<'a> {
     pub sample: &'a Sample,
-    pub record: Record<'a>,
+    pub record: MinimizedImage,
     pub model: Model,
     pub file: Vec<u8>,
     pub path: String,
@@ -22,12 +21,16 @@ const FOLDER: &str = concat!(env!("CARGO_MANIFEST_DIR"), "/../../target/readers"
 
 impl<'a> Case<'a> {
     pub fn new(sample: &'a Sample) -> Result<Self, String> {
-        let record = Record::read(&sample.payload)?;
+        let refused = |refusal| format!("{}: {refusal}", sample.name);
+        let Sample {
+            payload, original, ..
+        } = sample;
+        let record = bustardcase::read(payload).map_err(refused)?;
         let mut case = Case {
             sample,
-            model: Model::new(&record, sample.minor, &sample.brands),
+            model: Model::new(&record, payload, original),
             record,
-            file: library::expand(&sample.payload, sample.minor, &sample.brands)?,
+            file: bustardcase::expand(payload, original).map_err(refused)?,
             path: String::new(),
             shown: String::new(),
         };
@@ -41,6 +44,11 @@ impl<'a> Case<'a> {
         case.file = file;
         case.write(name)?;
         Ok(case)
+    }
+
+    /// What a chunk of the record holds.
+    pub fn bytes(&self, chunk: Chunk) -> &'a [u8] {
+        chunk.of(&self.sample.payload)
     }
 
     fn write(&mut self, name: &str) -> Result<(), String> {

@@ -4,11 +4,11 @@
 use crate::case::Case;
 use crate::expect::is_picture;
 use crate::facts::{Difference, OPENED};
-use crate::model::MAIN;
+use crate::model::{Code, MAIN};
 
 pub struct Finding {
     pub tool: &'static str,
-    /// The versions with which it was seen, by their first characters. With others it may be gone.
+    /// The known versions with which it was seen, as `Tool::known` has them. With others it may be gone.
     pub seen_with: &'static [&'static str],
     /// The files that show it: all of them must.
     pub files: fn(&Case) -> bool,
@@ -20,7 +20,7 @@ pub const ALL: [Finding; 18] = [
     Finding {
         tool: "heif-info",
         seen_with: &["1.15.", "1.19."],
-        files: |case| codec(case) == *b"av01" && case.record.main_config().is_empty(),
+        files: |case| codec(case) == *b"av01" && case.record.main_codec_config.len == 0,
         is: |d| d.reported.ends_with("No 'av1C' box"),
         why: "refuses an AV1 picture without configuration; the payload has none, and AVIF asks for one",
     },
@@ -104,7 +104,9 @@ pub const ALL: [Finding; 18] = [
     Finding {
         tool: "exiv2",
         seen_with: &["0.27.6", "0.28.5"],
-        files: |case| case.record.compressed() && boxes_in_meta(case) <= case.file.len() / 16,
+        files: |case| {
+            case.record.exif_xmp_compressed && boxes_in_meta(case) <= case.file.len() / 16
+        },
         is: |d| d.fact.ends_with("Make") || d.fact.ends_with("source"),
         why: "reads neither compressed Exif nor compressed XMP",
     },
@@ -125,7 +127,7 @@ pub const ALL: [Finding; 18] = [
     Finding {
         tool: "avifdec --info",
         seen_with: &["1.2."],
-        files: |case| case.record.gain_map().is_some_and(|g| g.data.is_empty()),
+        files: |case| case.record.gain_map.is_some_and(|g| g.data.len == 0),
         is: |d| d.fact == OPENED && d.reported.contains("must have exactly 2 entries"),
         why: "asks for two inputs of a tone-mapped picture; without gain-map data the file names one",
     },
@@ -149,16 +151,17 @@ pub const ALL: [Finding; 18] = [
     },
 ];
 
-fn codec(case: &Case) -> [u8; 4] {
-    case.record.types()[0]
+/// The type of the main picture, which is the first item.
+fn codec(case: &Case) -> Code {
+    case.model.items[0].kind
 }
 
 fn has_compressed_exif(case: &Case) -> bool {
-    case.record.compressed() && case.record.exif().is_some()
+    case.record.exif_xmp_compressed && case.record.exif.is_some()
 }
 
 fn has_compressed_xmp(case: &Case) -> bool {
-    case.record.compressed() && case.record.xmp().is_some()
+    case.record.exif_xmp_compressed && case.record.xmp.is_some()
 }
 
 fn pictures(case: &Case) -> usize {

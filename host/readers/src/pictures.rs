@@ -1,6 +1,8 @@
 //! What the chunks hold. The pictures can be decoded, for tools that look at them before they speak
 //! of the file; Exif, XMP and ICC profile can be read too.
 
+use bustardcase::Chunk;
+
 /// A codec configuration and the data coded under it.
 #[derive(Clone, Copy)]
 pub struct Coded {
@@ -167,9 +169,9 @@ pub fn deflated(bytes: &[u8]) -> Vec<u8> {
     out
 }
 
-/// The length of what a chunk holds.
-pub fn text_length(chunk: &[u8], compressed: bool) -> usize {
-    chunk.len() - if compressed { DEFLATED } else { 0 }
+/// The length of what Exif or XMP holds, before compression.
+pub fn text_length(chunk: Chunk, compressed: bool) -> usize {
+    chunk.len - if compressed { DEFLATED } else { 0 }
 }
 
 /// The name of a profile that `icc` made.

@@ -1,15 +1,14 @@
 //! The payloads to expand.
 
 use crate::pictures::{self, Coded};
+use bustardcase::{FileType, FourCc};
 use plan::{Alpha, Chroma, Depth, GainMap, Hdr, NO_BODIES, Plan};
 
-/// A payload, and the original file type it comes with: major brand 'mif3', a minor version, and a
-/// list of brands.
+/// A payload, and the original file type it comes with. Its major brand is always 'mif3'.
 pub struct Sample {
     pub name: String,
     pub payload: Vec<u8>,
-    pub minor: u32,
-    pub brands: Vec<[u8; 4]>,
+    pub original: FileType,
     /// Whether the main data is a picture.
     pub decodable: bool,
 }
@@ -312,11 +311,15 @@ impl Draft {
         for chunk in self.chunks() {
             payload.extend(chunk);
         }
+        let original = FileType {
+            minor_version: u32::from_be_bytes(self.minor),
+            compatible_brands: self.brands.iter().map(FourCc::from).collect(),
+            ..FileType::default()
+        };
         Sample {
             name: self.name,
             payload,
-            minor: u32::from_be_bytes(self.minor),
-            brands: self.brands,
+            original,
             decodable: self.decodable,
         }
     }

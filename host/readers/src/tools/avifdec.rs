@@ -6,11 +6,13 @@ use crate::expect;
 use crate::facts::Facts;
 use crate::model::{MAIN, Model, TMAP};
 use crate::pictures::text_length;
+use bustardcase::Chunk;
 
 pub const TOOL: Tool = Tool {
     name: "avifdec --info",
     program: "avifdec",
     version: &["--version"],
+    known: &["0.11.", "1.2."],
     takes: |case| case.model.major == *b"avif",
     expected,
     reported,
@@ -25,23 +27,16 @@ fn expected(case: &Case) -> Facts {
     let mut facts = Facts::opened();
     let (width, height) = expect::item_size(model, MAIN);
     facts.say("Resolution", format!("{width}x{height}"));
-    facts.say("Bit Depth", record.format().bits.to_string());
-    facts.say("Format", format(record.chroma().subsampling));
+    facts.say("Bit Depth", record.format.bits().to_string());
+    facts.say("Format", format(record.chroma.subsampling));
     facts.say("Alpha", alpha(case));
-    facts.say(
-        "Range",
-        if record.full_range() {
-            "Full"
-        } else {
-            "Limited"
-        },
-    );
+    facts.say("Range", if record.full_range { "Full" } else { "Limited" });
     colour(model, &mut facts);
-    facts.say("ICC Profile", present(record.icc().map(<[u8]>::len)));
-    let length = |chunk: &[u8]| text_length(chunk, record.compressed());
-    facts.say("XMP Metadata", present(record.xmp().map(length)));
+    facts.say("ICC Profile", present(record.icc.map(|icc| icc.len)));
+    let length = |chunk: Chunk| text_length(chunk, record.exif_xmp_compressed);
+    facts.say("XMP Metadata", present(record.xmp.map(length)));
     // It leaves out the four bytes before the TIFF header.
-    let exif = record.exif().map(|exif| length(exif) - 4);
+    let exif = record.exif.map(|exif| length(exif) - 4);
     facts.say("Exif Metadata", present(exif));
     transformations(model, &mut facts);
     newer(case, &mut facts);
@@ -53,8 +48,8 @@ fn format(subsampling: u8) -> &'static str {
 }
 
 fn alpha(case: &Case) -> &'static str {
-    match (case.record.alpha_data(), case.record.premultiplied()) {
-        ([], _) => "Absent",
+    match (case.record.alpha_data.len, case.record.alpha_premultiplied) {
+        (0, _) => "Absent",
         (_, false) => "Not premultiplied",
         (_, true) => "Premultiplied",
     }
@@ -105,7 +100,7 @@ fn newer(case: &Case, facts: &mut Facts) {
         let number = |at: usize| u16::from_be_bytes([clli.body[at], clli.body[at + 1]]);
         facts.may_say("CLLI", format!("{}, {}", number(0), number(2)));
     }
-    let Some(gain_map) = case.record.gain_map().filter(|g| !g.data.is_empty()) else {
+    let Some(gain_map) = case.record.gain_map.filter(|g| g.data.len > 0) else {
         facts.may_say("Gain map", "Absent");
         return;
     };
@@ -116,10 +111,10 @@ fn newer(case: &Case, facts: &mut Facts) {
     };
     let parts = [
         format!("{}x{} pixels", gain_map.width, gain_map.height),
-        format!("{} bit", gain_map.format.bits),
+        format!("{} bit", gain_map.format.bits()),
         format(gain_map.chroma.subsampling).to_string(),
         format!("{range} Range"),
-        format!("Matrix Coeffs. {}", gain_map.matrix),
+        format!("Matrix Coeffs. {}", gain_map.matrix_coefficients),
         // The metadata gives the main picture no headroom.
         "Base Image is SDR".to_string(),
     ];

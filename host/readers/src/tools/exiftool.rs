@@ -11,6 +11,7 @@ pub const TOOL: Tool = Tool {
     name: "exiftool",
     program: "exiftool",
     version: &["-ver"],
+    known: &["12.57", "13.25"],
     takes: every_file,
     expected,
     reported,
@@ -73,15 +74,18 @@ fn colour_tags(cicp: Option<([u8; 3], bool)>, facts: &mut Facts) {
 /// What the Exif item, the XMP packet and the profiles hold.
 fn text_tags(case: &Case, facts: &mut Facts) {
     let record = &case.record;
-    if record.exif().is_some() {
+    if record.exif.is_some() {
         facts.say("Make", pictures::MAKE);
     }
-    if record.xmp().is_some() {
+    if record.xmp.is_some() {
         facts.say("Source", pictures::SOURCE);
     }
-    let tmap = record.gain_map().and_then(|gain_map| gain_map.tmap_icc);
-    for profile in [record.icc(), tmap].into_iter().flatten() {
-        facts.say("ProfileDescription", pictures::icc_name(profile));
+    let tmap = record.gain_map.and_then(|gain_map| gain_map.tmap_icc);
+    for profile in [record.icc, tmap].into_iter().flatten() {
+        facts.say(
+            "ProfileDescription",
+            pictures::icc_name(case.bytes(profile)),
+        );
     }
 }
 

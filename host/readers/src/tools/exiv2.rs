@@ -10,6 +10,7 @@ pub const TOOL: Tool = Tool {
     name: "exiv2",
     program: "exiv2",
     version: &["--version"],
+    known: &["0.27.6", "0.28.5"],
     takes: every_file,
     expected,
     reported,
@@ -28,10 +29,10 @@ fn expected(case: &Case) -> Facts {
             facts.say(size_name(i), format!("{width}, {height}"));
         }
     }
-    if case.record.exif().is_some() {
+    if case.record.exif.is_some() {
         facts.say("Exif.Image.Make", pictures::MAKE);
     }
-    if case.record.xmp().is_some() {
+    if case.record.xmp.is_some() {
         facts.say("Xmp.dc.source", pictures::SOURCE);
     }
     facts

@@ -11,6 +11,7 @@ pub const TOOL: Tool = Tool {
     name: "ffprobe",
     program: "ffprobe",
     version: &["-version"],
+    known: &["5.1.", "7.1."],
     takes: |case| case.model.major == *b"avif" && case.sample.decodable,
     expected,
     reported,
@@ -27,14 +28,14 @@ fn expected(case: &Case) -> Facts {
     facts.say("major_brand", expect::code(&model.major));
     let brands: Vec<String> = model.brands.iter().map(expect::code).collect();
     facts.say("compatible_brands", brands.concat());
-    facts.say("packet", fingerprint(case.record.main_data()));
+    facts.say("packet", fingerprint(case.bytes(case.record.main_data)));
     facts
 }
 
 fn pixel_format(case: &Case) -> String {
     let format = ["gray", "yuv420p", "yuv422p", "yuv444p"];
-    let format = format[case.record.chroma().subsampling as usize];
-    match case.record.format().bits {
+    let format = format[case.record.chroma.subsampling as usize];
+    match case.record.format.bits() {
         8 => format.to_string(),
         bits => format!("{format}{bits}le"),
     }

@@ -1,7 +1,7 @@
 //! libheif's heif-convert: which way up the picture is shown. The picture has four quarters, each
 //! brighter than the one before; the record's orientation is Exif's, which says where they go.
 
-use super::{Tool, run};
+use super::{LIBHEIF, Tool, run};
 use crate::case::Case;
 use crate::facts::{Facts, list};
 use crate::pictures;
@@ -11,7 +11,8 @@ pub const TOOL: Tool = Tool {
     name: "heif-convert",
     program: "heif-convert",
     version: &["--help"],
-    takes: |case| case.record.main_data() == pictures::AV1_420.data,
+    known: LIBHEIF,
+    takes: |case| case.bytes(case.record.main_data) == pictures::AV1_420.data,
     expected,
     reported,
 };
@@ -31,8 +32,8 @@ const SHOWN: [[usize; 4]; 8] = [
 
 fn expected(case: &Case) -> Facts {
     let mut facts = Facts::opened();
-    let (width, height) = (case.record.width(), case.record.height());
-    let orientation = case.record.orientation();
+    let (width, height) = (case.record.width, case.record.height);
+    let orientation = case.record.orientation;
     let (width, height) = if orientation > 4 {
         (height, width)
     } else {

@@ -1,6 +1,6 @@
 //! libheif's heif-info --dump-boxes: every box.
 
-use super::{Tool, cut, every_file, number, run};
+use super::{LIBHEIF, Tool, cut, every_file, number, run};
 use crate::case::Case;
 use crate::expect;
 use crate::facts::{Facts, fingerprint_at, list};
@@ -10,6 +10,7 @@ pub const TOOL: Tool = Tool {
     name: "heif-info --dump-boxes",
     program: "heif-info",
     version: &["--help"],
+    known: LIBHEIF,
     takes: every_file,
     expected,
     reported,

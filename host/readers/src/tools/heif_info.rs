@@ -1,6 +1,6 @@
 //! libheif's heif-info: the picture as a user sees it.
 
-use super::{Answer, Tool, cut, every_file, run};
+use super::{Answer, LIBHEIF, Tool, cut, every_file, run};
 use crate::case::Case;
 use crate::expect::{self, item_byte, item_size};
 use crate::facts::{Facts, list};
@@ -11,6 +11,7 @@ pub const TOOL: Tool = Tool {
     name: "heif-info",
     program: "heif-info",
     version: &["--help"],
+    known: LIBHEIF,
     takes: every_file,
     expected,
     reported,
@@ -20,7 +21,7 @@ fn expected(case: &Case) -> Facts {
     let mut facts = Facts::opened();
     expect::brands(&case.model, &mut facts);
     facts.say("image", format!("{} (id=1), primary", shown_size(case)));
-    let profile = if case.record.icc().is_some() {
+    let profile = if case.record.icc.is_some() {
         "prof"
     } else {
         "nclx"
@@ -37,15 +38,15 @@ fn expected(case: &Case) -> Facts {
 /// Width and height after turning.
 fn shown_size(case: &Case) -> String {
     let (width, height) = item_size(&case.model, MAIN);
-    match case.record.orientation() {
+    match case.record.orientation {
         1..=4 => format!("{width}x{height}"),
         _ => format!("{height}x{width}"),
     }
 }
 
 fn alpha(case: &Case) -> &'static str {
-    match (case.record.alpha_data(), case.record.premultiplied()) {
-        ([], _) => "no",
+    match (case.record.alpha_data.len, case.record.alpha_premultiplied) {
+        (0, _) => "no",
         (_, false) => "yes",
         (_, true) => "yes (premultiplied)",
     }
@@ -54,10 +55,10 @@ fn alpha(case: &Case) -> &'static str {
 /// Exif and XMP, with their lengths before compression.
 fn texts(case: &Case, facts: &mut Facts) {
     let record = &case.record;
-    let chunks = [("Exif", record.exif()), ("XMP", record.xmp())];
+    let chunks = [("Exif", record.exif), ("XMP", record.xmp)];
     for (name, chunk) in chunks {
         if let Some(chunk) = chunk {
-            let length = text_length(chunk, record.compressed());
+            let length = text_length(chunk, record.exif_xmp_compressed);
             facts.say(name, format!("{length} bytes"));
         }
     }
@@ -71,9 +72,9 @@ fn newer(case: &Case, facts: &mut Facts) {
     let sampling = ["monochrome", "YCbCr, 4:2:0", "YCbCr, 4:2:2", "YCbCr, 4:4:4"];
     facts.may_say(
         "colorspace",
-        sampling[case.record.chroma().subsampling as usize],
+        sampling[case.record.chroma.subsampling as usize],
     );
-    facts.may_say("bit depth", case.record.format().bits.to_string());
+    facts.may_say("bit depth", case.record.format.bits().to_string());
     if let Some(angle) = item_byte(&case.model, MAIN, b"irot") {
         facts.may_say("angle (ccw)", (angle as u32 * 90).to_string());
     }

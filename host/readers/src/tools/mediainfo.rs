@@ -10,6 +10,7 @@ pub const TOOL: Tool = Tool {
     name: "mediainfo",
     program: "mediainfo",
     version: &["--Version"],
+    known: &["v23.04", "v25.04"],
     takes: every_file,
     expected,
     reported,
