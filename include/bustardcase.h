@@ -2,7 +2,7 @@
 
    Link target/staticlib/libexports.a, which `rt staticlib exports` makes, and for bustardcase_outline also
    target/staticlib/libexports_outline.a, which `rt staticlib exports_outline` makes; they need no other library. docs/ABI.md
-   says the same at more length, and examples/read.c is a program.
+   says the same at more length; examples/read.c and examples/every_function.c are programs.
 
    A slice is passed as a pointer and a length. Outputs must not overlap inputs. Nothing is kept after a call, and
    nothing is allocated; the functions may be called from several threads.

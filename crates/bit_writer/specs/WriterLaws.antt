@@ -19,7 +19,7 @@ use Rattle.bits.specs.Format.{Format, field, flag, flagIf, fieldIf, minus1If, c
 use Rattle.bit_writer.specs.Writer.{feed, place, waiting, fits, Fed, Tested, Puts, allZero}
 use Rattle.bit_writer.specs.declared.BitWriter.{BitWriter}
 
--- ---- the machine
+-- ---- bits fed one after another
 pub feed-append : (l m : List Bool) (o : List ℕ) (k : ℕ)
     → feed o k (l ++ m) ≡ feed (feed o k l .0) (feed o k l .1 .0) (feed o k l .1 .1 ++ m)
 unfolding feed

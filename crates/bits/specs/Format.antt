@@ -496,7 +496,7 @@ minus1If t n = choose t (minus1 n) (number 0)
 abbrev pub flagIf : Bool → Format Bool
 flagIf t = choose t flag off
 
--- nothing of value, then a format
+-- one format after another that has no value
 abbrev pub _>>_ : {A : Type 0} → Format (Unit {0}) → Format A → Format A
 p >> q = renamed (λ x. x .1) (λ a. (tt, a)) (p >>= λ u. q) (λ a. refl) (λ a. refl)
 

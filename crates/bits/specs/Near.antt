@@ -79,6 +79,6 @@ near-view to from is p h d e = record { far = e .far; long = λ x g. e .long (fr
 pub near-exactly : (n v r : ℕ) (h : T (isReadingRefusal r)) → Near (exactly n v r h) n
 near-exactly n v r h = near-view _ _ _ _ _ _ (near-ensure (λ x. eqb x v) r h (near-field n))
 
--- nothing of value, then a format
+-- one format after another that has no value
 pub near-next : {A : Type 0} {n m : ℕ} (p : Format (Unit {0})) (q : Format A) → Near p n → Near q m → Near (p >> q) (n + m)
 near-next p q e f = near-view _ _ _ _ _ _ (e then λ u. f)

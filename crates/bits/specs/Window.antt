@@ -5,7 +5,7 @@ use mathlib.Core.Bool.{Bool, true, false}
 use mathlib.Core.Logic.{_⊎_, inl, inr, ⊎-elim}
 use mathlib.Core.List.{List, [], _∷_, _++_}
 use Prim.Native.Nat.{ℕ, zero, suc, _+_, _-_, _*_, _/_, _%_, _^_, _≤_, _<_}
-use native.Mathlib.Nat.{div-div-eq-div-mul, pow-succ', pow-suc, div-one, lt-of-lt-of-le, zero-add, suc-add, zero-sub, sub-zero, suc-sub-suc}
+use native.Mathlib.Nat.{div-div-eq-div-mul, pow-succ', div-one, lt-of-lt-of-le, zero-add, suc-add, zero-sub, sub-zero, suc-sub-suc}
 use native.Mathlib.Numerals.{add-one}
 use native.Mathlib.Omega.{arith}
 use lib.Dec.{ltb}
@@ -158,12 +158,6 @@ window-field d f i a (suc n) h =
     ∙ ap₂ (λ (x y : ℕ). x * 2 + y)
     (ap (λ (k : ℕ). k % 2 ^ n) (shr-shr w (40 - a - suc n) 1 ∙ ap (λ (k : ℕ). w / 2 ^ k) (sym e′)) ∙ window-field d f i a n (omega arith))
     (ap (λ (k : ℕ). w / 2 ^ k % 2) e ∙ window-bit d f i (a + n) (omega arith) ∙ ap (bitAt d) (omega arith))
-
--- n bits spell a number below 2 ^ n
-pub bits-small : (d : List ℕ) (p n : ℕ) → bitsAt d p n < 2 ^ n
-unfolding bitsAt bitAt
-bits-small d p zero = omega arith
-bits-small d p (suc n) = omega (arith, bits-small d p n, pow-suc 2 n)
 
 -- what the bits write is what they are, one by one
 pub bits-part : (d : List ℕ) (p n : ℕ) → p + n ≤ 8 * length d → bitsAt d p n ≡ part d p n

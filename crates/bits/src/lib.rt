@@ -313,22 +313,6 @@ impl Bits {
         }
     }
 
-    // A field that stands only where the flag says so; else 0.
-    pub fn read_if(self, data: &[u8], on: bool, n: u32) -> FieldRead
-        requires { ⌜ n ≤ 32 ⌝ }
-        ensures { λ r. ⌜ Run (fieldIf on n) (now («data» .entry)) (state self) (r .value) (state (r .next)) ⌝ }
-        ensures { λ r. ⌜ r .value < 2 ^ n ⌝ }
-    {
-        if on {
-            self.read(data, n)
-        } else {
-            FieldRead {
-                value: 0,
-                next: self,
-            }
-        }
-    }
-
     pub fn flag(self, data: &[u8]) -> FlagRead
         ensures { λ r. ⌜ Run flag (now («data» .entry)) (state self) (r .value) (state (r .next)) ⌝ }
     {

@@ -19,7 +19,7 @@ use Rattle.boxes.specs.declared.UserType.the-variants.{Absent}
 use Rattle.boxes.specs.Walk.{after, walkUpTo, walk, at-end}
 
 -- ---- a size that is accepted keeps the box within the bytes
-abbrev Sized : List ℕ → ℕ → BoxSize → Type 0
+abbrev pub Sized : List ℕ → ℕ → BoxSize → Type 0
 Sized s i (Whole total head) = InBuffer s i total head
 Sized s i (Refused number) = number ≡ 0 → ⊥
 
@@ -35,7 +35,7 @@ bounded-sized s i head total h k = go (leb head total) refl (leb total (length s
     go true e false f = λ z. omega arith
     go false e b f = λ z. omega arith
 
-sized : (s : List ℕ) (i : ℕ) → i + 8 ≤ length s → Sized s i (sizeAt s i)
+pub sized : (s : List ℕ) (i : ℕ) → i + 8 ≤ length s → Sized s i (sizeAt s i)
 unfolding sizeAt largeSizeAt
 sized s i h = go (eqb (num 4 s i) 0) (eqb (num 4 s i) 1) (ltb (length s - i) 16)
   where

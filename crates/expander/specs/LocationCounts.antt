@@ -9,7 +9,7 @@ use lib.Dec.{eqb, ltb}
 use lib.ListN.{length, length-append}
 use borrow.Author.Tests.{eqb-true, ltb-true, ltb-false, lt-ltb, le-ltb, le-leb, lt-leb}
 use Rattle.items.specs.ItemBytes.{ItemBytes, lengthsOf, own}
-use Rattle.items.specs.ItemLocations.{Location, located, locations, dataLen}
+use Rattle.items.specs.ItemLocations.{Location, located, locations, dataLen, count-located}
 use Rattle.items.specs.OneLocation.{locationsOf, main-once, alpha-once, tone-map-once, gain-map-once, exif-once, xmp-once}
 use Rattle.items.specs.declared.DataLengths.{DataLengths}
 use Rattle.mini.specs.ItemKind.{MAIN, ALPHA, TMAP, GAIN-MAP, EXIF, XMP}
@@ -17,13 +17,6 @@ use Rattle.expander.specs.LocationsInFile.{lies, holders}
 use Rattle.slots.specs.Associations.{one}
 
 -- ---- the locations of a number
-one-if : (empty : Bool) (l : Location) → length (cond empty [] (l ∷ [])) ≡ cond empty 0 1
-one-if true l = refl
-one-if false l = refl
-
-count-located : (id off len : ℕ) → length (located id off len) ≡ cond (eqb len 0) 0 1
-count-located id off len = one-if (eqb len 0) _
-
 count-append : (id : ℕ) (xs ys : List Location) → length (locationsOf id (xs ++ ys)) ≡ length (locationsOf id xs) + length (locationsOf id ys)
 count-append id [] ys = omega arith
 count-append id (x ∷ xs) ys =

@@ -22,7 +22,7 @@ use Rattle.mini.specs.declared.MinimizedImage.{MinimizedImage}
 use Rattle.mini.specs.declared.Span.{Span}
 use Rattle.slots.specs.Bounds.{iprp-most}
 use Rattle.slots.specs.LengthLaws.{length-span}
-use Rattle.slots.specs.Sound.{SpanPlaced, ChunkPlaced, Bounded, Sound, sound}
+use Rattle.slots.specs.Sound.{SpanPlaced, ChunkPlaced, Bounded, Sound, placed-of, sound}
 use Rattle.expander.specs.EquivalentFile.{itemSet, itemBytes, dataLengths, metaBodyLen}
 
 abbrev pub PlacedIf : Bool → Span → List ℕ → Type 0
@@ -52,10 +52,6 @@ pub record Fit (i : MinimizedImage) (s : List ℕ) : Type 0 where
   pub bounded : DataBounded i
 
 -- ---- where it comes from
-chunk-placed : (c : Chunk) (s : List ℕ) → T (chunkIn c (length s)) → ChunkPlaced c s
-chunk-placed chunk-is.Absent s h = tt
-chunk-placed (chunk-is.Present at len) s h = leb→le (at + len) (length s) h
-
 gain-placed : (has : Bool) (i : MinimizedImage) (s : List ℕ) → T (not has || gainIn i (length s))
     → PlacedIf has (i .«gain_map» .metadata) s × PlacedIf has (i .«gain_map» .«data») s
 gain-placed true i s h =
@@ -84,8 +80,8 @@ data-placed i s p =
       metadata = g .0;
       gain-map = g .1;
       main = leb→le _ n (f .0);
-      exif = chunk-placed (i .exif) s (h .0);
-      xmp = chunk-placed (i .xmp) s (h .1);
+      exif = placed-of (i .exif) s (h .0);
+      xmp = placed-of (i .xmp) s (h .1);
     }
 
 pub fit : (i : MinimizedImage) (s : List ℕ) → T (wellPlaced i s) → T (writable i) → Fit i s

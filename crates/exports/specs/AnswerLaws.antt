@@ -1,4 +1,5 @@
--- The three ways in which an exported function keeps its promise.
+-- The ways in which an exported function answers (Answer): it refuses, the output is too short, or the bytes are written; and the same of a call
+-- that has written by itself. Assumes nothing.
 use mathlib.Core.Path.{_≡_, refl, sym, ap, _∙_, subst}
 use mathlib.Core.Bool.{Bool, true, false, cond}
 use mathlib.Core.List.{List}

@@ -4,8 +4,8 @@
 --     unsigned int(32) minor_version;
 --     unsigned int(32) compatible_brands[];   // to the end of the box
 --
--- Refusal 17 where the first two fields pass the end, then 15, as in expanding, where the brands aren't an allowed list: they are handed out
--- for that.
+-- Refusal 17 where the first two fields pass the end; then 15, as in expanding, which the brands are read for, where they aren't an allowed
+-- list.
 use mathlib.Core.Path.{_≡_, refl}
 use mathlib.Core.Bool.{Bool, true, false, cond}
 use mathlib.Core.List.{List, [], _++_, append-assoc}

@@ -1,2 +1,2 @@
-// A header's bits.
+// The bits of a header: `MinimizedImage::to_box` of mini.rs up to the chunks.
 pub mod header;

@@ -94,7 +94,7 @@ cond-count false l = refl
 length-located : (id off len : ℕ) → length (entries (located id off len)) ≡ forBytes len 16
 length-located id off len = cond-entries (eqb len 0) _
 
-count-located : (id off len : ℕ) → length (located id off len) ≡ forBytes len 1
+pub count-located : (id off len : ℕ) → length (located id off len) ≡ forBytes len 1
 count-located id off len = cond-count (eqb len 0) _
 
 pub count-locations : (base : ℕ) (l : DataLengths) → length (locations base l) ≡ locationCount l

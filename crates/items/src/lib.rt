@@ -1,4 +1,4 @@
-// The boxes of 'meta' that speak of items (ISO/IEC 23008-12, O.4): `equivalent_file` of mini.rs. Each body is written into its own stretch of
+// The boxes of 'meta' that list the items (ISO/IEC 23008-12, O.4): `equivalent_file` of mini.rs. Each body is written into its own stretch of
 // the output, and its header then.
 pub mod group;
 pub mod info;

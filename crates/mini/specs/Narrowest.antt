@@ -135,6 +135,10 @@ true-both : (a b : Bool) → (a && b) ≡ true → (a ≡ true) × (b ≡ true)
 true-both true b e = (refl, e)
 true-both false b e = absurd (false≢true e)
 
+pub fieldIf-off : (t : Bool) (n v : ℕ) → fieldIf t n .Good v → t ≡ false → v ≡ 0
+fieldIf-off true n v g e = absurd (true≢false e)
+fieldIf-off false n v g e = g
+
 pub flagIf-off : (t b : Bool) → flagIf t .Good b → t ≡ false → b ≡ false
 flagIf-off true b g e = absurd (true≢false e)
 flagIf-off false b g e = g

@@ -16,7 +16,7 @@ use Rattle.mini.specs.Chunks.{isPresent}
 use Rattle.mini.specs.Same.{chunkLen, unplacedChunk, unplaced}
 use Rattle.mini.specs.Write.{notEmpty, Choices, least, headerWith, headerOf, writable}
 use Rattle.mini.specs.RecordHeader.{parts}
-use Rattle.mini.specs.Narrowest.{flagIf-off, gain-more}
+use Rattle.mini.specs.Narrowest.{fieldIf-off, flagIf-off, gain-more}
 use Rattle.mini.specs.Ranges.{Within, FormatIn, format-iff, gain-format-iff, CicpIn, cicp-iff, TypesIn, types-iff, TmapIn, tmap-iff, Centred, chroma-iff, Bodies, boxes-iff}
 use Rattle.mini.specs.declared.Chunk.{Chunk}
 use Rattle.mini.specs.declared.Chunk.the-variants.{Absent, Present}
@@ -82,11 +82,7 @@ pub record Lawful (i : MinimizedImage) : Type 0 where
   pub gain-size : i .«gain_map» .«data» .len ≤ 268435455
   pub config-size : (i .«main_codec_config» .len ≤ 4095) × (chunkLen (i .«alpha_codec_config») ≤ 4095) × (chunkLen (i .«gain_map» .«codec_config») ≤ 4095)
 
--- ---- what a field says where its flag is off, where it is on, and at most
-field-off : (t : Bool) (n v : ℕ) → fieldIf t n .Good v → t ≡ false → v ≡ 0
-field-off true n v g e = absurd (true≢false e)
-field-off false n v g e = g
-
+-- ---- what a field says where its flag is on, and at most
 more-on : (t : Bool) (n v : ℕ) → minus1If t n .Good v → t ≡ true → 1 ≤ v
 unfolding view
 more-on true n v g e = omega (arith, g .1)
@@ -148,16 +144,16 @@ blank-gain i c good gc e =
     let has = i .«has_gain_map» in
     let w = gain-off has (c .same) (c .large) (i .width) (m .width) (g .gain-map-ok .0 .1 .1 .0) e in
     let h = gain-off has (c .same) (c .large) (i .height) (m .height) (g .gain-map-ok .0 .1 .1 .1 .0) e in
-    let x = field-off has 8 (m .«matrix_coefficients») (g .gain-map-ok .0 .1 .1 .1 .1 .0) e in
+    let x = fieldIf-off has 8 (m .«matrix_coefficients») (g .gain-map-ok .0 .1 .1 .1 .1 .0) e in
     let f = flagIf-off has (m .«full_range») (g .gain-map-ok .0 .1 .1 .1 .1 .1 .0) e in
-    let ch = blank-chroma (m .chroma) (chroma-iff (m .chroma) .0 (g .gain-map-ok .0 .1 .1 .1 .1 .1 .1 .1 .0)) (field-off has 2 (m .chroma .subsampling) (g .gain-map-ok .0 .1 .1 .1 .1 .1 .1 .0) e) in
+    let ch = blank-chroma (m .chroma) (chroma-iff (m .chroma) .0 (g .gain-map-ok .0 .1 .1 .1 .1 .1 .1 .1 .0)) (fieldIf-off has 2 (m .chroma .subsampling) (g .gain-map-ok .0 .1 .1 .1 .1 .1 .1 .0) e) in
     let fo = gain-format-iff has (m .format) .0 (g .gain-map-ok .0 .1 .1 .1 .1 .1 .1 .1 .1 .1 .0) .0 e in
     let ci = no-tmap (m .«tmap_cicp») (flagIf-off has (hasTmapCicp (m .«tmap_cicp»)) (g .gain-map-ok .0 .1 .1 .1 .1 .1 .1 .1 .1 .1 .1 .1 .0) e) in
     let ic = no-chunk (m .«tmap_icc») (flagIf-off has (isPresent (m .«tmap_icc»)) (g .gain-map-ok .0 .1 .1 .1 .1 .1 .1 .1 .1 .1 .1 .0) e) in
     let bo = boxes-iff has (m .«tmap_hdr») .0 (g .tmap-hdr-ok) .1 e in
-    let me = field-off has _ (m .metadata .len) (g .sizes-ok .0 .1 .1 .1 .1 .1 .0) e in
-    let co = field-off has _ (m .«data» .len) (g .sizes-ok .0 .1 .1 .1 .1 .1 .1 .0) e in
-    let cf = no-config (m .«codec_config») gc (field-off (has && ltb 0 (m .«data» .len)) _ (chunkLen (m .«codec_config»)) (g .sizes-ok .0 .1 .1 .1 .1 .1 .1 .1 .0) (and-zero has _ co)) in
+    let me = fieldIf-off has _ (m .metadata .len) (g .sizes-ok .0 .1 .1 .1 .1 .1 .0) e in
+    let co = fieldIf-off has _ (m .«data» .len) (g .sizes-ok .0 .1 .1 .1 .1 .1 .1 .0) e in
+    let cf = no-config (m .«codec_config») gc (fieldIf-off (has && ltb 0 (m .«data» .len)) _ (chunkLen (m .«codec_config»)) (g .sizes-ok .0 .1 .1 .1 .1 .1 .1 .1 .0) (and-zero has _ co)) in
     λ j. record {
       width = w j;
       height = h j;
@@ -184,13 +180,13 @@ lawful-of i c good ac gc =
     let gw = gain-more has (c .same) (c .large) (i .width) (m .width) (g .gain-map-ok .0 .1 .1 .0) w in
     let gh = gain-more has (c .same) (c .large) (i .height) (m .height) (g .gain-map-ok .0 .1 .1 .1 .0) h in
     let boxes = boxes-iff (i .hdr) (i .«hdr_boxes») .0 (g .hdr-ok) in
-    let acl : i .«alpha_data» .len ≡ 0 → chunkLen (i .«alpha_codec_config») ≡ 0 = λ e. field-off (i .alpha && ltb 0 (i .«alpha_data» .len)) _ _ (g .sizes-ok .0 .1 .1 .1 .1 .1 .1 .1 .1 .1 .1 .1 .0) (and-zero (i .alpha) _ e) in
-    let gcl : m .«data» .len ≡ 0 → chunkLen (m .«codec_config») ≡ 0 = λ e. field-off (has && ltb 0 (m .«data» .len)) _ _ (g .sizes-ok .0 .1 .1 .1 .1 .1 .1 .1 .0) (and-zero has _ e) in
+    let acl : i .«alpha_data» .len ≡ 0 → chunkLen (i .«alpha_codec_config») ≡ 0 = λ e. fieldIf-off (i .alpha && ltb 0 (i .«alpha_data» .len)) _ _ (g .sizes-ok .0 .1 .1 .1 .1 .1 .1 .1 .1 .1 .1 .1 .0) (and-zero (i .alpha) _ e) in
+    let gcl : m .«data» .len ≡ 0 → chunkLen (m .«codec_config») ≡ 0 = λ e. fieldIf-off (has && ltb 0 (m .«data» .len)) _ _ (g .sizes-ok .0 .1 .1 .1 .1 .1 .1 .1 .0) (and-zero has _ e) in
     record {
       main-centred = chroma-iff (i .chroma) .0 (g .main-ok .0 .0);
       gain-centred = chroma-iff (m .chroma) .0 (g .gain-map-ok .0 .1 .1 .1 .1 .1 .1 .1 .0);
       premultiplied = flagIf-off (i .alpha) (i .«alpha_premultiplied») (g .main-ok .0 .1 .1 .0);
-      alpha-bytes = field-off (i .alpha) _ _ (g .sizes-ok .0 .1 .1 .1 .1 .1 .1 .1 .1 .1 .1 .0);
+      alpha-bytes = fieldIf-off (i .alpha) _ _ (g .sizes-ok .0 .1 .1 .1 .1 .1 .1 .1 .1 .1 .1 .0);
       alpha-config-empty = ac;
       gain-config-empty = gc;
       alpha-config-alone = acl;

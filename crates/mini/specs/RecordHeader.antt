@@ -45,7 +45,7 @@ image-again i c at h k =
     simp (chunk-again, config-again (i .«alpha_codec_config») h, config-again (i .«gain_map» .«codec_config») k, span-again)
 
 -- ---- header, record, header
--- the parts of a header's goodness, by name
+-- that the format takes a header, part by part
 pub record Parts (h : Header) : Type 0 where
   pub flags-ok : flags .Good (h .flags)
   pub dimensions-ok : dimensions .Good (h .dimensions)

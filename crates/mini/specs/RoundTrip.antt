@@ -23,7 +23,7 @@ use Rattle.mini.specs.Payload.{header-bytes, header-padded, headerBits, 
 use Rattle.mini.specs.Same.{chunkLen, unplacedChunk, unplaced, chunkBytes, spanBytes, chunksOf, chunkIn, spanIn, gainIn, wellPlaced}
 use Rattle.mini.specs.Write.{Choices, least, headerWith, headerOf, payloadWith, payloadOf, notEmpty, writable}
 use Rattle.mini.specs.RecordHeader.{parts, choicesOf, image-again, header-again, chunks-again}
-use Rattle.mini.specs.Narrowest.{Step, even, over, Same, same-choices, least-good, least-step}
+use Rattle.mini.specs.Narrowest.{fieldIf-off, Step, even, over, Same, same-choices, least-good, least-step}
 use Rattle.mini.specs.declared.Chunk.{Chunk}
 use Rattle.mini.specs.declared.Chunk.the-variants.{Absent, Present}
 use Rattle.mini.specs.declared.Header.{Header}
@@ -119,13 +119,9 @@ gain-lens i s false h z =
     let e = z refl in
     (zero-chunk (i .«gain_map» .«codec_config») s (e .0), zero-chunk (i .«gain_map» .«tmap_icc») s (e .1), zero-len _ (i .«gain_map» .metadata .at) s (e .2), zero-len _ (i .«gain_map» .«data» .at) s (e .3))
 
-off-field : (has : Bool) (w n : ℕ) → fieldIf has w .Good n → has ≡ false → n ≡ 0
-off-field true w n g e = absurd (true≢false e)
-off-field false w n g e = g
-
-off-field′ : (has t : Bool) (w n : ℕ) → fieldIf (has && t) w .Good n → has ≡ false → n ≡ 0
-off-field′ true t w n g e = absurd (true≢false e)
-off-field′ false t w n g e = g
+off-field : (has t : Bool) (w n : ℕ) → fieldIf (has && t) w .Good n → has ≡ false → n ≡ 0
+off-field true t w n g e = absurd (true≢false e)
+off-field false t w n g e = g
 
 off-more : (has t : Bool) (w n : ℕ) → minus1If (has && t) w .Good n → has ≡ false → n ≡ 0
 off-more true t w n g e = absurd (true≢false e)
@@ -151,10 +147,10 @@ chunk-lens i c s w good =
     let a7 = and-split (chunkIn (i .exif) n) _ (a6 .1) in
     let e = gain-lens i s has (a3 .0)
     (λ f. (
-      off-field′ has (ltb 0 (i .«gain_map» .«data» .len)) _ _ (g .sizes-ok .0 .1 .1 .1 .1 .1 .1 .1 .0) f,
+      off-field has (ltb 0 (i .«gain_map» .«data» .len)) _ _ (g .sizes-ok .0 .1 .1 .1 .1 .1 .1 .1 .0) f,
       off-more has (isPresent (i .«gain_map» .«tmap_icc»)) _ _ (g .sizes-ok .0 .1 .1 .1 .1 .0) f,
-      off-field has _ _ (g .sizes-ok .0 .1 .1 .1 .1 .1 .0) f,
-      off-field has _ _ (g .sizes-ok .0 .1 .1 .1 .1 .1 .1 .0) f,
+      fieldIf-off has _ _ (g .sizes-ok .0 .1 .1 .1 .1 .1 .0) f,
+      fieldIf-off has _ _ (g .sizes-ok .0 .1 .1 .1 .1 .1 .1 .0) f,
     )) in
     let x1 = span-len (i .«main_codec_config» .len) (i .«main_codec_config» .at) s (a1 .0) in
     let x2 = chunk-len (i .«alpha_codec_config») s (a2 .0) in

@@ -68,7 +68,7 @@ pub rust-written : map (λ x. payloadOf (readMini (x .0) .image) (x .0)) payload
 unfolding ahead part bytesOf bytesAt readBits readBytes _>>=_ view flags dimensions chroma floatCode floatFormat integerFormat sampleFormat explicitCicp explicitCodecTypes mainFormat tmapCicp gainMapDimension gainMapFormat gainMapHeader cclvMore cclv cclvFor hdrBoxes chunkSizes header trailingBits storedSizes storedPlaces endWithin imageOf bitsToBoundary pastTrailingBits testChunks readChunks readMini headerBits chunksStart chunksOf wellPlaced least headerWith headerOf payloadWith payloadOf writable unplaced
 rust-written = refl
 
--- ---- a record with everything: two HDR hdrBoxes (one a cclv of 5 bytes), a gain map with its own dimensions, alpha, ICC, Exif, XMP
+-- ---- a record with everything: two HDR bodies (one a cclv of 5 bytes), a gain map with its own dimensions, alpha, ICC, Exif, XMP
 abbrev bytesFrom : ℕ → ℕ → List ℕ
 bytesFrom k zero = []
 bytesFrom k (suc n) = k ∷ bytesFrom (k + 1) n

@@ -1,5 +1,5 @@
 -- How the values of a group of fields, in the order read, make up a part of the record, and back. Which fields there are, how wide and
--- in which order, stands in Syntax; here is only the glue between tuples and records, with its laws. Assumes nothing.
+-- in which order, stands in Syntax; here is only how tuples become records and back, with the laws. Assumes nothing.
 use mathlib.Core.Path.{_≡_, refl, sym, ap, subst}
 use mathlib.Core.Bool.{Bool, true, false, not}
 use mathlib.Core.List.{List, [], _∷_}

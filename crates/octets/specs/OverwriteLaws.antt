@@ -5,7 +5,7 @@ use Prim.Native.Nat.{ℕ, suc, _+_, _-_, _≤_, _<_}
 use native.Mathlib.Nat.{add-zero, add-suc, suc-add, le-refl}
 use native.Mathlib.Omega.{arith}
 use lib.ListN.{length, take, drop, set, length-append, length-drop, take-append-drop, drop-of-length-le}
-use lib.Seq.{sets, sets-eq, length-sets, take-set-le, drop-set-lt, drop-set-add, set-comm, drop-at, length-take-le, take-append-seam, take-all}
+use lib.Seq.{sets, sets-eq, length-sets, take-set-le, drop-set-add, set-comm, drop-at, length-take-le, take-append-seam, take-all}
 use Rattle.octets.specs.Overwrite.{overwrite, Wrote}
 
 -- with room, it is the bytes before, `bs`, and the bytes after
@@ -33,12 +33,6 @@ pub overwrite-append : (out : List ℕ) (at : ℕ) (xs bs : List ℕ)
     → overwrite out at (xs ++ bs) ≡ overwrite (overwrite out at xs) (at + length xs) bs
 unfolding overwrite
 overwrite-append out at xs bs = sets-append out at xs bs
-
-set-part : (out : List ℕ) (a k : ℕ) (b : ℕ) → take a out ++ set (drop a out) k b ≡ set out (a + k) b
-set-part out a k b =
-    ap (λ (l : List ℕ). l ++ set (drop a out) k b) (sym (take-set-le a out (a + k) b (omega arith)))
-    ∙ ap (λ (l : List ℕ). take a (set out (a + k) b) ++ l) (sym (drop-set-add a out k b))
-    ∙ take-append-drop a (set out (a + k) b)
 
 sets-part : (out : List ℕ) (a k : ℕ) (bs : List ℕ) → take a out ++ sets (drop a out) k bs ≡ sets out (a + k) bs
 sets-part out a k [] = take-append-drop a out
@@ -105,15 +99,6 @@ room {o} {o'} {a} {n} {r} {bs} k w h = omega (arith, w .next, kept w)
 -- the same bytes under another name
 pub recast : {o o' : List ℕ} {a n r : ℕ} {bs cs : List ℕ} → Wrote o a n bs o' r → bs ≡ cs → Wrote o a n cs o' r
 recast w e = record { next = w .next; size = ap length (sym e) ∙ w .size; left = w .left ∙ rw e }
-
--- two writes, the later one right before the earlier one
-pub ahead : {o o₁ o₂ : List ℕ} {a k n r r' : ℕ} {hs bs : List ℕ}
-    → Wrote o (a + k) n bs o₁ r → Wrote o₁ a k hs o₂ r' → Wrote o a (k + n) (hs ++ bs) o₂ r
-ahead {o} {o₁} {o₂} {a} {k} {n} {r} {r'} {hs} {bs} p q = record {
-  next = omega (arith, p .next);
-  size = simp length-append (omega (arith, p .size, q .size));
-  left = q .left ∙ rw (p .left, ← (q .size), overwrite-before);
-}
 
 -- ---- a part lent on
 -- what the part `&mut out[a..]` holds when it is lent, as the prover has it

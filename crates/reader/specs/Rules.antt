@@ -1,4 +1,5 @@
--- What placing the chunks answers.
+-- What reading answers once the header is read: the refusal met there, 9 where a chunk ends past the payload, or the record (mini's Read). Assumes
+-- nothing.
 use mathlib.Core.Path.{_≡_, sym, ap, ap₂, _∙_}
 use mathlib.Core.Bool.{Bool, true, false}
 use mathlib.Core.List.{List}
@@ -16,7 +17,6 @@ use Rattle.mini.specs.declared.Header.{Header}
 use Rattle.mini.specs.declared.MinimizedImage.{MinimizedImage}
 use Rattle.mini.specs.declared.Reading.{Reading}
 
--- ---- the three answers of placing the chunks
 module _ (s : List ℕ) (h : Header) (b : State) where
   abbrev ends : Bool
   ends = endWithin (length s) (b .at / 8) (storedSizes (h .sizes))

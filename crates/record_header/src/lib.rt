@@ -1,4 +1,4 @@
-// The header of a record, in its narrowest forms.
+// The header of a record, in its narrowest forms: what `MinimizedImage::to_box` of mini.rs decides before it writes.
 ghost use mathlib.Core.Path.{_≡_};
 ghost use Rattle.mini.specs.Write.{headerOf, notEmpty};
 use bits::both;

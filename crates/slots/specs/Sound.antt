@@ -55,7 +55,7 @@ bounded-of i l =
       tmap-icc-size = l .tmap-icc-size;
     }
 
-placed-of : (c : Chunk) (s : List ℕ) → T (chunkIn c (length s)) → ChunkPlaced c s
+pub placed-of : (c : Chunk) (s : List ℕ) → T (chunkIn c (length s)) → ChunkPlaced c s
 placed-of chunk-is.Absent s h = tt
 placed-of (chunk-is.Present at len) s h = leb→le (at + len) (length s) h
 

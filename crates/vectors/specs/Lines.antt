@@ -1,6 +1,5 @@
--- Document 01's lines marked P, as one table proved by one statement: those of 'src/mini.rs, reading', 'writing' and
--- 'expanding'.
--- The definitions are those that the contracts cite.
+-- Document 01's lines marked P, those of 'src/mini.rs, reading', 'writing' and 'expanding', as one table proved by one statement over the
+-- definitions that the contracts cite.
 use mathlib.Core.Path.{_≡_, refl, ap, ap₂, _∙_}
 use mathlib.Core.Bool.{false, cond}
 use mathlib.Core.List.{List, [], _∷_, _++_, map}

@@ -4,7 +4,7 @@ use native.Mathlib.Omega.{arith}
 use lib.ListN.{length}
 use borrow.Author.Tests.{lt-leb, le-leb}
 use Rattle.boxes.specs.Header.{headerAt}
-use Rattle.boxes.proofs.Sizes.{size-in-buffer}
+use Rattle.boxes.specs.WalkEnds.{sized}
 use borrow.Author.Needs.{needs}
 use Rattle.boxes.proofs.parse_box_header.Statement.{statement}
 use Rattle.boxes.proofs.parse_box_header.Tie as tie
@@ -27,7 +27,7 @@ typed-header-requires : tie.Need-typed-header-requires
 typed-header-requires c κs =
     let a = c .before .before .before .before .before .before .before .args in
     let h : a .start + 8 ≤ length (a .buf .now) = omega arith in
-    rw (← (c .before .before .before .box-size .ensures), c .before .size2 .given .1) at (size-in-buffer (a .buf .now) (a .start) h)
+    rw (← (c .before .before .before .box-size .ensures), c .before .size2 .given .1) at (sized (a .buf .now) (a .start) h)
 
 returns-3 : tie.Need-returns-3
 unfolding headerAt
