@@ -1,5 +1,5 @@
 -- What an exported function returns and what it leaves in its output (docs/ABI.md; demand 1): one number, the refusal's number
--- times 2^32 plus a length. A refusal leaves the output as it was. A success alters only the bytes it reports, from the start on.
+-- times 2^48 plus a value, which is the length written, or needed. A refusal leaves the output as it was. A success alters only the bytes it reports, from the start on.
 use mathlib.Core.Path.{_≡_}
 use mathlib.Core.Bool.{cond}
 use mathlib.Core.List.{List}
@@ -10,9 +10,13 @@ use Rattle.octets.specs.Overwrite.{overwrite}
 use Rattle.mini.specs.Read.{readMini}
 use Rattle.expander.specs.Outcome.{refusalOf}
 
--- a refusal's number with a length
+-- 2^48
+abbrev pub unit : ℕ
+unit = 281474976710656
+
+-- a refusal's number with a value
 abbrev pub packed : ℕ → ℕ → ℕ
-packed refusal len = refusal * 4294967296 + len
+packed refusal value = refusal * unit + value
 
 -- the number and the output, for a call that refuses with `refusal`, or, if that is 0, has `bytes` to hand out: 16 with the
 -- needed length where the output is shorter than these

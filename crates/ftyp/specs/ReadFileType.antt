@@ -4,8 +4,8 @@
 --     unsigned int(32) minor_version;
 --     unsigned int(32) compatible_brands[];   // to the end of the box
 --
--- Refusal 17 where the first two fields pass the end; then 15, as in expanding, which the brands are read for, where they aren't an allowed
--- list.
+-- Refusal 28 (docs/DECISIONS.md, 18) where the body is no original file type: the first two fields pass its end, or the brands aren't a list that
+-- expanding allows.
 use mathlib.Core.Path.{_≡_, refl}
 use mathlib.Core.Bool.{Bool, true, false, cond}
 use mathlib.Core.List.{List, [], _++_, append-assoc}
@@ -24,18 +24,20 @@ use Rattle.ftyp.specs.declared.FileTypeRead.{FileTypeRead}
 abbrev pub brandsIn : List ℕ → List ℕ
 brandsIn s = drop 8 s
 
--- a refusal's number, and zeros
-abbrev pub refused : ℕ → FileTypeRead
-refused number = record { refusal = number; «major_brand» = 0; «minor_version» = 0; «brands_at» = 0; «brands_len» = 0 }
+-- both fields are there, and the brands are an allowed list
+abbrev pub isFileType : List ℕ → Bool
+isFileType s = cond (ltb (length s) 8) false (allowed (brandsIn s))
+
+-- the refusal's number, and zeros
+abbrev pub refused : FileTypeRead
+refused = record { refusal = 28; «major_brand» = 0; «minor_version» = 0; «brands_at» = 0; «brands_len» = 0 }
 
 -- a file type whose brands are the n bytes from 8 on
 abbrev pub accepted : (major minor n : ℕ) → FileTypeRead
 accepted major minor n = record { refusal = 0; «major_brand» = major; «minor_version» = minor; «brands_at» = 8; «brands_len» = n }
 
 unfoldable pub readFileType : List ℕ → FileTypeRead
-readFileType s =
-    cond (ltb (length s) 8) (refused 17)
-    (cond (allowed (brandsIn s)) (accepted (num 4 s 0) (num 4 s 4) (length s - 8)) (refused 15))
+readFileType s = cond (isFileType s) (accepted (num 4 s 0) (num 4 s 4) (length s - 8)) refused
 
 -- ---- a file type that is written is read back, with its brands
 module _ (major minor : ℕ) (brands : List ℕ) (code : major < 4294967296) (version : minor < 4294967296) where

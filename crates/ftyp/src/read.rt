@@ -5,11 +5,11 @@ use octets::get_u32;
 ghost use mathlib.Core.Path.{_≡_};
 ghost use Rattle.ftyp.specs.ReadFileType.{refused, readFileType};
 
-fn refuse(number: u8) -> FileTypeRead
-    ensures { λ r. ⌜ r ≡ refused number ⌝ }
+fn refuse() -> FileTypeRead
+    ensures { λ r. ⌜ r ≡ refused ⌝ }
 {
     FileTypeRead {
-        refusal: number,
+        refusal: 28,
         major_brand: 0,
         minor_version: 0,
         brands_at: 0,
@@ -23,7 +23,7 @@ pub fn read_file_type(body: &[u8]) -> FileTypeRead
 {
     let n = body.len();
     if n < 8 {
-        return refuse(17);
+        return refuse();
     }
     let whole = allowed(&body[8..]);
     if whole {
@@ -37,5 +37,5 @@ pub fn read_file_type(body: &[u8]) -> FileTypeRead
             brands_len: n - 8,
         };
     }
-    refuse(15)
+    refuse()
 }

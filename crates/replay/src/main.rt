@@ -38,7 +38,7 @@ fn box_header_agrees(text: &[u8], at: usize) -> bool
     let n = b.len;
     let m = w.len;
     let answer = exports::bustardcase_box_header(&buf[0..n], start.value as usize, &mut out);
-    if answer != refusal.value % 256 * 4294967296 + m as u64 {
+    if answer != refusal.value % 256 * 281474976710656 + m as u64 {
         return false;
     }
     holds(&out, &want[0..m])
@@ -57,7 +57,7 @@ fn reading_agrees(text: &[u8], at: usize) -> bool
     let n = p.len;
     let m = w.len;
     let answer = exports::bustardcase_read(&payload[0..n], &mut out);
-    if answer != refusal.value % 256 * 4294967296 + m as u64 {
+    if answer != refusal.value % 256 * 281474976710656 + m as u64 {
         return false;
     }
     holds(&out, &want[0..m])

@@ -2,10 +2,14 @@
 
 use crate::refusal::{self, Refusal};
 
-/// The refusal, if there is one, and the length beside it.
+/// The bits below the refusal's number.
+const VALUE_BITS: u32 = 48;
+
+/// The refusal, if there is one, and the value beside it: a length.
 fn split(word: u64) -> (Option<Refusal>, usize) {
-    let length = word as u32 as usize;
-    (Refusal::of_number((word >> 32) as u32), length)
+    let value = word & ((1 << VALUE_BITS) - 1);
+    let number = (word >> VALUE_BITS) as u32;
+    (Refusal::of_number(number), value as usize)
 }
 
 /// The answer of a function that writes `N` bytes.
@@ -28,5 +32,21 @@ pub fn sized(call: impl Fn(&mut [u8]) -> u64) -> Result<Vec<u8>, Refusal> {
     match split(call(&mut out)) {
         (None, _) => Ok(out),
         (Some(refusal), _) => Err(refusal),
+    }
+}
+
+#[cfg(test)]
+mod tests {
+    use super::*;
+
+    #[test]
+    fn the_number_stands_above_48_bits() {
+        assert_eq!(split(0), (None, 0));
+        assert_eq!(split((1 << 48) - 1), (None, (1 << 48) - 1));
+        assert_eq!(split(9 << 48), (Some(Refusal::ChunkPastEnd), 0));
+        let needed = (16 << 48) + (1 << 32) + 5;
+        let short = Some(Refusal::ShortOutput);
+        assert_eq!(split(needed), (short, (1 << 32) + 5));
+        assert_eq!(split(28 << 48), (Some(Refusal::NotAFileType), 0));
     }
 }

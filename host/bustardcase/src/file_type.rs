@@ -36,7 +36,7 @@ impl FileType {
     }
 }
 
-/// The file type that the payload of an 'ftyp' box gives. Refusals 17 and 15.
+/// The file type that the payload of an 'ftyp' box gives. Refusal 28.
 ///
 /// ```
 /// let file_type = bustardcase::file_type(b"mif3\0\0\0\x07mif3avif")?;

@@ -1,6 +1,7 @@
 //! The exported functions of the static library, called as they are. A slice goes over as its
-//! pointer and its length. Each returns the refusal's number times 2^32 plus a length: of what was
-//! written, or, under refusal 16, of what is needed. docs/ABI.md has the numbers and layouts.
+//! pointer and its length. Each returns the refusal's number times 2^48 plus a value: the length of
+//! what was written; under refusal 16 the length needed; under any other 0. docs/ABI.md has the
+//! numbers and layouts.
 //!
 //! The functions of the crate's root give typed answers; these are for callers who lend their own
 //! output.

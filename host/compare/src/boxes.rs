@@ -1,6 +1,7 @@
 //! Box headers: `bustardcase_box_header` beside `parse_box_header`.
 
 use crate::check::Checker;
+use crate::report::Report;
 use bustardcase::raw;
 use oracle::answer::Answer;
 use oracle::box_cases;
@@ -36,26 +37,26 @@ struct Outcomes {
     extended: u64,
 }
 
-pub fn compare() -> Result<(), String> {
+pub fn compare(report: &mut Report) -> Result<(), String> {
     let mut run = Run {
         checker: Checker::new(fields::of_box_header),
         outcomes: Outcomes::default(),
     };
     box_cases::grid(&mut |b, s| run.case(b, s))?;
-    run.report("sizes 0 to 40, every place", LEAST)?;
+    run.tell(report, "sizes 0 to 40, every place", LEAST)?;
     box_cases::large_sizes(&mut |b, s| run.case(b, s))?;
-    run.report("large sizes", 0)?;
+    run.tell(report, "large sizes", 0)?;
     box_cases::near_types(&mut |b, s| run.case(b, s))?;
-    run.report("types near 'uuid'", 0)?;
+    run.tell(report, "types near 'uuid'", 0)?;
     box_cases::far_starts(&mut |b, s| run.case(b, s))?;
-    run.report("starts near powers of two", 0)?;
+    run.tell(report, "starts near powers of two", 0)?;
     if !box_cases::long_buffers(&mut |b, s| run.case(b, s))? {
-        println!("boxes: no room for a buffer of more than 2^32 bytes, left out");
+        return Err("there is no room for a buffer of more than 2^32 bytes".to_string());
     }
-    run.report("long buffers", 0)?;
+    run.tell(report, "long buffers", 0)?;
     box_cases::random(RANDOM, &mut |b, s| run.case(b, s))?;
-    run.report("random", LEAST)?;
-    println!("boxes: {} calls", run.checker.calls);
+    run.tell(report, "random", LEAST)?;
+    report.line(format_args!("{} calls", run.checker.calls));
     Ok(())
 }
 
@@ -71,17 +72,18 @@ impl Run {
         Ok(())
     }
 
-    /// Prints and clears the counts; each must be at least `least`.
-    fn report(&mut self, what: &str, least: u64) -> Result<(), String> {
+    /// Tells and clears the counts; each must be at least `least`.
+    fn tell(&mut self, report: &mut Report, what: &str, least: u64) -> Result<(), String> {
         let seen = std::mem::take(&mut self.outcomes);
-        let mut line = format!("boxes: {what}: {} cases;", seen.total());
+        report.cases += seen.total();
+        let mut line = format!("{what}: {} cases;", seen.total());
         for number in 1..=4 {
             line += &format!(" refusal {number}: {},", seen.refused[number]);
         }
-        println!(
+        report.line(format_args!(
             "{line} a header: {}, with extended type: {}",
             seen.plain, seen.extended
-        );
+        ));
         if seen.least() < least {
             return Err(format!("an outcome occurs fewer than {least} times"));
         }

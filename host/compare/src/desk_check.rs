@@ -3,6 +3,7 @@
 
 use crate::check::Checker;
 use crate::read::shown;
+use crate::report::Report;
 use bustardcase::raw;
 use oracle::answer::Answer;
 use oracle::checking::{self, CHECK_LEN};
@@ -27,7 +28,7 @@ struct Run {
     no: [u64; CHECK_LEN],
 }
 
-pub fn compare() -> Result<(), String> {
+pub fn compare(report: &mut Report) -> Result<(), String> {
     let mut run = Run {
         checker: Checker::new(fields::of_check),
         cases: 0,
@@ -44,10 +45,11 @@ pub fn compare() -> Result<(), String> {
     payloads::shortest(&mut |c| run.case(c))?;
     payloads::random_tails(TAILS, &mut |c| run.case(c))?;
     payloads::structured(STRUCTURED, &mut |c| run.case(c))?;
-    println!(
-        "check: {} payloads, {} refused; yes {:?}, no {:?}; {} calls",
+    report.line(format_args!(
+        "{} payloads, {} refused; yes {:?}, no {:?}; {} calls",
         run.cases, run.refused, run.yes, run.no, run.checker.calls
-    );
+    ));
+    report.cases = run.cases;
     match run.yes.iter().chain(&run.no).all(|n| *n >= 20) {
         true => Ok(()),
         false => Err("an answer comes too seldom".to_string()),

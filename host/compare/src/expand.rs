@@ -1,12 +1,15 @@
 //! Expanding: `bustardcase_expand` beside `MinimizedImage::parse` and then `equivalent_file`.
 
 use crate::check::Checker;
+use crate::features::Features;
 use crate::read::shown;
+use crate::report::Report;
 use bustardcase::raw;
 use oracle::answer::Answer;
 use oracle::expanding::{self, OriginalType};
 use oracle::payloads::{self, Case};
 use oracle::random::Random;
+use oracle::reading::{self, Reading};
 
 const SEED: u64 = 0x6275_7374_6172_6433;
 
@@ -16,6 +19,10 @@ const STRUCTURED: u64 = 100_000;
 /// How many headers with explicit codec types; each is expanded under one file type.
 const TYPED: u64 = 200_000;
 
+/// How many payloads must become files at least, and how often each refusal must come.
+const LEAST_FILES: u64 = 230_000;
+const LEAST: u64 = 500;
+
 struct Run {
     checker: Checker,
     random: Random,
@@ -23,15 +30,18 @@ struct Run {
     cases: u64,
     /// How often each number came back, 0 for a file.
     numbers: [u64; 17],
+    /// Of what became a file.
+    features: Features,
 }
 
-pub fn compare() -> Result<(), String> {
+pub fn compare(report: &mut Report) -> Result<(), String> {
     let mut run = Run {
         checker: Checker::new(|at| format!("byte {at} of the file")),
         random: Random::new(SEED),
         types: expanding::listed_types(),
         cases: 0,
         numbers: [0; 17],
+        features: Features::of_files(),
     };
     // Every listed file type with a gain map and without.
     for plan in [payloads::heavy(3), expanding::plain()] {
@@ -41,9 +51,11 @@ pub fn compare() -> Result<(), String> {
             run.compare_one(&payload, &original)?;
         }
     }
-    // The most main data that a payload can have.
+    // Each chunk as long as can be.
     let original = run.types[0].clone();
-    run.compare_one(&payloads::payload_of(&payloads::heavy(1 << 28)), &original)?;
+    for plan in expanding::greatest_plans() {
+        run.compare_one(&payloads::payload_of(&plan), &original)?;
+    }
     payloads::shortest(&mut |c| run.case(c))?;
     payloads::structured(STRUCTURED, &mut |c| run.case(c))?;
     for _ in 0..TYPED {
@@ -54,26 +66,33 @@ pub fn compare() -> Result<(), String> {
             ..Case::default()
         })?;
     }
-    println!(
-        "expand: {} payloads, {} files, {} calls; refusals {}",
-        run.cases,
-        run.numbers[0],
-        run.checker.calls,
-        (5..16)
-            .map(|n| format!("{n}: {}", run.numbers[n]))
-            .collect::<Vec<_>>()
-            .join(", ")
-    );
-    if let Some(n) = [0, 5, 6, 7, 8, 9, 12, 13, 14, 15]
-        .into_iter()
-        .find(|&n| run.numbers[n] < 500)
-    {
-        return Err(format!("answer {n} comes too seldom"));
-    }
-    Ok(())
+    run.tell(report)?;
+    run.features.check(report)
 }
 
 impl Run {
+    /// Refuses a run in which an answer comes too seldom. 10 and 11 cannot come: what is read is well
+    /// placed and can be written.
+    fn tell(&self, report: &mut Report) -> Result<(), String> {
+        let refusals = [5, 6, 7, 8, 9, 12, 13, 14, 15];
+        let counts = refusals.map(|n: usize| format!("{n}: {}", self.numbers[n]));
+        report.line(format_args!(
+            "{} payloads, {} files, {} calls; refusals {}",
+            self.cases,
+            self.numbers[0],
+            self.checker.calls,
+            counts.join(", ")
+        ));
+        report.cases = self.cases;
+        if self.numbers[0] < LEAST_FILES {
+            return Err(format!("fewer than {LEAST_FILES} payloads become files"));
+        }
+        match refusals.into_iter().find(|n| self.numbers[*n] < LEAST) {
+            None => Ok(()),
+            Some(n) => Err(format!("refusal {n} comes fewer than {LEAST} times")),
+        }
+    }
+
     fn case(&mut self, case: Case) -> Result<(), String> {
         let original = match self.random.once_in(2) {
             true => self.random_type(),
@@ -96,13 +115,19 @@ impl Run {
     }
 
     fn with_outputs(&mut self, payload: &[u8], original: &OriginalType) -> Result<(), String> {
-        let answer = expanding::answer(payload, original)?;
+        let reading = reading::read(payload)?;
+        let answer = expanding::answer(&reading, original)?;
+        if let (Answer::Done(_), Reading::Accepted(accepted)) = (&answer, &reading) {
+            self.features.count(&accepted.image, Some(original));
+        }
         let exact = match &answer {
             Answer::Done(bytes) => bytes.len(),
             Answer::Refused(_) => 64,
         };
         self.numbers[answer.number() as usize] += 1;
-        let other = [exact - 1, exact + 1, exact + 23, 0][(self.cases % 4) as usize];
+        // Shifted by one after every four cases, since they come in fours.
+        let turn = (self.cases + self.cases / 4) % 4;
+        let other = [exact - 1, exact + 1, exact + 23, 0][turn as usize];
         self.cases += 1;
         for out_len in [exact, other] {
             self.checker.call(&answer, out_len, |out| {

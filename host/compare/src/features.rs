@@ -1,5 +1,7 @@
-//! What an accepted payload can have, and how often that must occur.
+//! What an accepted payload, and a file that it is expanded to, can have, and how often that must occur.
 
+use crate::report::Report;
+use oracle::expanding::{MIF3, OriginalType};
 use oracle::reading::hdr_bodies;
 use upstream::mini::{MiniGainMap, MiniHdrBoxes, MinimizedImage, SampleFormat};
 
@@ -7,7 +9,17 @@ use upstream::mini::{MiniGainMap, MiniHdrBoxes, MinimizedImage, SampleFormat};
 const LEAST: u64 = 100;
 const LEAST_GREATEST: u64 = 2;
 
-type Test = Box<dyn Fn(&MinimizedImage) -> bool>;
+/// How often a chunk of the greatest size must occur in a file: once, since files of data of 2^28 bytes
+/// take a second each.
+const LEAST_GREATEST_FILE: u64 = 1;
+
+/// What the Rust read, and for a file the type that it was expanded under.
+struct Seen<'a> {
+    image: &'a MinimizedImage,
+    original: Option<&'a OriginalType>,
+}
+
+type Test = Box<dyn Fn(&Seen) -> bool>;
 
 /// The length of a chunk, if it is there.
 type Length = fn(&MinimizedImage) -> Option<usize>;
@@ -22,34 +34,53 @@ pub struct Feature {
 pub struct Features(Vec<Feature>);
 
 impl Features {
-    pub fn new() -> Self {
-        let mut all = Features(Vec::new());
-        all.picture();
-        all.formats();
-        all.hdr();
-        all.gain_map();
-        all.chunks();
-        all.limits();
+    /// None, where they are counted elsewhere.
+    pub fn none() -> Self {
+        Features(Vec::new())
+    }
+
+    /// Those of payloads that are read.
+    pub fn of_readings() -> Self {
+        let mut all = Features::none();
+        all.record();
+        all.add("no explicit codec types", |i| {
+            i.explicit_codec_types.is_none()
+        });
+        all.add("alpha without data", |i| i.alpha && i.alpha_data.is_empty());
+        all.limits(LEAST_GREATEST);
         all
     }
 
-    pub fn count(&mut self, image: &MinimizedImage) {
+    /// Those of payloads that become files, and of the types of these. What expanding refuses is left out:
+    /// inferred codec types (14) and alpha without data (12).
+    pub fn of_files() -> Self {
+        let mut all = Features::none();
+        all.record();
+        all.limits(LEAST_GREATEST_FILE);
+        all.brands();
+        all.major_brands();
+        all
+    }
+
+    /// Counts a record; of a file the type too.
+    pub fn count(&mut self, image: &MinimizedImage, original: Option<&OriginalType>) {
+        let seen = Seen { image, original };
         for feature in &mut self.0 {
-            feature.seen += (feature.test)(image) as u64;
+            feature.seen += (feature.test)(&seen) as u64;
         }
     }
 
-    /// Prints how often the rarest occur, and refuses one that occurs too seldom.
-    pub fn report(&self) -> Result<(), String> {
+    /// Tells how often the rarest occur, and refuses one that occurs too seldom.
+    pub fn check(&self, report: &mut Report) -> Result<(), String> {
         let common = self.0.iter().filter(|f| f.least == LEAST);
         let rarest = common.clone().min_by_key(|f| f.seen).expect("features");
-        println!(
-            "read: {} features, each in at least {LEAST} accepted payloads (the rarest, {}, in {}); {} at the greatest sizes",
+        report.line(format_args!(
+            "{} features, each at least {LEAST} times (the rarest, {}, {}); {} of the greatest sizes",
             common.count(),
             rarest.name,
             rarest.seen,
             self.0.iter().filter(|f| f.least != LEAST).count()
-        );
+        ));
         match self.0.iter().find(|f| f.seen < f.least) {
             None => Ok(()),
             Some(f) => Err(format!("the feature '{}' occurs {} times", f.name, f.seen)),
@@ -57,6 +88,10 @@ impl Features {
     }
 
     fn add(&mut self, name: &str, test: impl Fn(&MinimizedImage) -> bool + 'static) {
+        self.add_seen(name, move |seen| test(seen.image));
+    }
+
+    fn add_seen(&mut self, name: &str, test: impl Fn(&Seen) -> bool + 'static) {
         self.0.push(Feature {
             name: name.to_string(),
             least: LEAST,
@@ -70,11 +105,76 @@ impl Features {
         self.add(&name, move |i| i.gain_map.as_ref().is_some_and(&test));
     }
 
+    fn add_of_type(&mut self, name: &str, test: impl Fn(&OriginalType) -> bool + 'static) {
+        self.add_seen(name, move |seen| seen.original.is_some_and(&test));
+    }
+
+    fn record(&mut self) {
+        self.picture();
+        self.formats();
+        self.hdr();
+        self.gain_map();
+        self.chunks();
+    }
+
+    /// The brand list: how long it is, and whether the brands that are added stand in it already.
+    fn brands(&mut self) {
+        for count in [0, 1, 2, 8, 1_023, 1_024] {
+            self.add_of_type(&format!("{count} brands"), move |t| {
+                t.brands.len() == 4 * count
+            });
+        }
+        self.add_of_type("mif1 is listed", |t| t.lists(b"mif1"));
+        self.add_of_type("mif1 is added", |t| !t.lists(b"mif1"));
+        self.add_of_type("mif1 is listed first of 1,024 brands", |t| {
+            t.brands.len() == 4_096 && t.brands.starts_with(b"mif1")
+        });
+        self.add_of_type("mif3 is listed last of 1,024 brands", |t| {
+            t.brands.len() == 4_096 && t.brands.ends_with(b"mif3")
+        });
+        for (name, has_gain_map) in [("a gain map", true), ("no gain map", false)] {
+            for (listed, words) in [(true, "listed"), (false, "not listed")] {
+                self.add_seen(&format!("{name}, tmap is {words}"), move |seen| {
+                    seen.image.gain_map.is_some() == has_gain_map
+                        && seen.original.is_some_and(|t| t.lists(b"tmap") == listed)
+                });
+            }
+        }
+    }
+
+    /// The major brand gives way to the minor version if it is 'mif3' and that is not 0.
+    fn major_brands(&mut self) {
+        self.add_of_type("major brand mif3, minor version 0", |t| {
+            !t.is_renamed() && t.major == MIF3
+        });
+        self.add_of_type("another major brand, minor version 0", |t| {
+            t.major != MIF3 && t.minor == 0
+        });
+        self.add_of_type("another major brand, a minor version", |t| {
+            t.major != MIF3 && t.minor != 0
+        });
+        for (name, minor) in [("vvi3", *b"vvi3"), ("heic", *b"heic"), ("avif", *b"avif")] {
+            self.add_of_type(&format!("renamed to {name}"), move |t| {
+                t.is_renamed() && t.minor.to_be_bytes() == minor
+            });
+        }
+        self.add_of_type("renamed to mif3", |t| t.is_renamed() && t.minor == MIF3);
+        self.add_of_type("renamed, mif3 is listed", |t| {
+            t.is_renamed() && t.lists(b"mif3")
+        });
+        self.add_of_type("renamed, mif3 is added", |t| {
+            t.is_renamed() && !t.lists(b"mif3")
+        });
+        self.add_of_type("renamed, mif3 is added to 1,024 brands", |t| {
+            t.is_renamed() && !t.lists(b"mif3") && t.brands.len() == 4_096
+        });
+        self.add_of_type("not renamed, mif3 is not listed", |t| {
+            !t.is_renamed() && !t.lists(b"mif3")
+        });
+    }
+
     fn picture(&mut self) {
         self.add("explicit codec types", |i| i.explicit_codec_types.is_some());
-        self.add("no explicit codec types", |i| {
-            i.explicit_codec_types.is_none()
-        });
         self.add("full range", |i| i.full_range);
         self.add("explicit cicp", |i| i.explicit_cicp.is_some());
         self.add("no explicit cicp", |i| i.explicit_cicp.is_none());
@@ -172,7 +272,6 @@ impl Features {
         self.add("no alpha", |i| !i.alpha);
         self.add("alpha", |i| i.alpha);
         self.add("premultiplied", |i| i.alpha_premultiplied);
-        self.add("alpha without data", |i| i.alpha && i.alpha_data.is_empty());
         self.add("alpha configuration", |i| i.alpha_codec_config.is_some());
         self.add("alpha data and no configuration", |i| {
             i.alpha_codec_config.is_none() && !i.alpha_data.is_empty()
@@ -200,7 +299,7 @@ impl Features {
     }
 
     /// Lengths at the limits of the short and the long form, and one more than the short.
-    fn limits(&mut self) {
+    fn limits(&mut self, least_greatest: u64) {
         let limits: [(&str, [usize; 3], Length); 11] = [
             ("icc", [1024, 1025, 1 << 20], |i| len(&i.icc)),
             ("exif", [1024, 1025, 1 << 20], |i| len(&i.exif)),
@@ -234,7 +333,7 @@ impl Features {
             for n in [short, more, long] {
                 self.add(&format!("{name} of {n} bytes"), move |i| of(i) == Some(n));
             }
-            self.0.last_mut().expect("one was added").least = LEAST_GREATEST;
+            self.0.last_mut().expect("one was added").least = least_greatest;
         }
     }
 }

@@ -1,6 +1,7 @@
 //! Walking boxes: `bustardcase_find_box` beside `find_box`.
 
 use crate::check::Checker;
+use crate::report::Report;
 use bustardcase::raw;
 use oracle::answer::Answer;
 use oracle::boxes::HEADER_LEN;
@@ -24,7 +25,7 @@ struct Run {
     found: [u64; 2],
 }
 
-pub fn compare() -> Result<(), String> {
+pub fn compare(report: &mut Report) -> Result<(), String> {
     let mut run = Run {
         checker: Checker::new(fields::of_box_header),
         cases: 0,
@@ -38,14 +39,15 @@ pub fn compare() -> Result<(), String> {
         run.case(rest, u32::from_be_bytes([own[0], own[1], own[2], own[3]]))
     })?;
     walks::random(RANDOM, &mut |buf, box_type| run.case(buf, box_type))?;
-    println!(
-        "find_box: {} cases; refusals 1 to 4: {:?}; found first: {}, later: {}; {} calls",
+    report.line(format_args!(
+        "{} cases; refusals 1 to 4: {:?}; found first: {}, later: {}; {} calls",
         run.cases,
         &run.refused[1..],
         run.found[0],
         run.found[1],
         run.checker.calls
-    );
+    ));
+    report.cases = run.cases;
     let least = run.refused[1..].iter().chain(&run.found).min();
     match least.is_some_and(|least| *least >= LEAST) {
         true => Ok(()),

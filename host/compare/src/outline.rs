@@ -3,6 +3,7 @@
 
 use crate::check::Checker;
 use crate::read::shown;
+use crate::report::Report;
 use bustardcase::raw;
 use oracle::fields;
 use oracle::outlining::{self, OUTLINE_LEN};
@@ -26,7 +27,7 @@ struct Run {
     refused: u64,
 }
 
-pub fn compare() -> Result<(), String> {
+pub fn compare(report: &mut Report) -> Result<(), String> {
     let mut run = Run {
         checker: Checker::new(fields::of_outline),
         cases: 0,
@@ -38,10 +39,11 @@ pub fn compare() -> Result<(), String> {
         return Err("there is no room for a payload of 2^28 bytes".to_string());
     }
     payloads::structured(STRUCTURED, &mut |c| run.case(c))?;
-    println!(
-        "outline: {} payloads, {} refused; {} calls",
+    report.line(format_args!(
+        "{} payloads, {} refused; {} calls",
         run.cases, run.refused, run.checker.calls
-    );
+    ));
+    report.cases = run.cases;
     match run.cases - run.refused >= LEAST {
         true => Ok(()),
         false => Err("too few payloads have an outline".to_string()),

@@ -2,23 +2,19 @@
 
 use crate::check::Checker;
 use crate::features::Features;
+use crate::report::Report;
 use bustardcase::raw;
 use oracle::fields;
 use oracle::hex::hex;
 use oracle::payloads::{self, Case};
-use oracle::random::Random;
 use oracle::reading::{self, RECORD_LEN, Reading};
 use oracle::refusal::PLACES;
-use std::time::{Duration, Instant};
 
 /// How many structured headers; each gives four payloads.
 const STRUCTURED: u64 = 300_000;
 
 /// How many random tails after 24 bits.
 const TAILS: u32 = 1 << 20;
-
-/// How long the run over all values of the first 24 bits may take before only some are taken.
-const PATIENCE: Duration = Duration::from_secs(120);
 
 /// How often each place of a refusal must occur at least.
 const LEAST_PLACE: u64 = 20;
@@ -39,35 +35,43 @@ struct Run {
     features: Features,
 }
 
-pub fn compare() -> Result<(), String> {
-    let mut run = Run::new();
+pub fn compare(report: &mut Report) -> Result<(), String> {
+    let mut run = Run::new(Features::of_readings());
     payloads::random_tails(TAILS, &mut |c| run.case(c))?;
-    run.report("24 bits over a random tail");
+    run.tell(report, "24 bits over a random tail");
     if !payloads::limits(&mut |c| run.case(c))? {
         return Err("there is no room for a payload of 2^28 bytes".to_string());
     }
-    run.report("and sizes at and around each limit");
+    run.tell(report, "and sizes at and around each limit");
     payloads::structured(STRUCTURED, &mut |c| run.case(c))?;
-    run.report("and structured headers");
-    run.check_cover()?;
+    run.tell(report, "and structured headers");
+    report.cases = run.cases;
+    run.check_cover(report)
+}
 
-    let mut all = Run::new();
-    payloads::shortest(&mut |c| all.case(c))?;
-    all.report("every payload of 0, 1 and 2 bytes");
-    all.first_bits()?;
-    println!("read: {} calls", all.checker.calls + run.checker.calls);
+/// Every short payload, and every value of the first 24 bits.
+pub fn first_bits(report: &mut Report) -> Result<(), String> {
+    let mut run = Run::new(Features::none());
+    payloads::shortest(&mut |c| run.case(c))?;
+    run.tell(report, "every payload of 0, 1 and 2 bytes");
+    for value in 0..1 << 24 {
+        payloads::first_bits(value, &mut |c| run.case(c))?;
+    }
+    run.tell(report, "and every value over a zero tail");
+    report.line(format_args!("{} calls", run.checker.calls));
+    report.cases = run.cases;
     Ok(())
 }
 
 impl Run {
-    fn new() -> Self {
+    fn new(features: Features) -> Self {
         Run {
             checker: Checker::new(fields::of_record),
             cases: 0,
             accepted: 0,
             refused: vec![0; PLACES.len()],
             wide: [0; 4],
-            features: Features::new(),
+            features,
         }
     }
 
@@ -108,7 +112,7 @@ impl Run {
                     return Err(format!("the header is taken to have {len} bytes"));
                 }
                 self.accepted += 1;
-                self.features.count(&accepted.image);
+                self.features.count(&accepted.image, None);
                 for (count, wide) in self.wide.iter_mut().zip(case.wide) {
                     *count += wide as u64;
                 }
@@ -117,29 +121,13 @@ impl Run {
         }
     }
 
-    /// Every value of the first 24 bits, or evenly spread ones where all would take too long.
-    fn first_bits(&mut self) -> Result<(), String> {
-        let step = first_bits_step()?;
-        let mut r = Random::new(1);
-        let count = (1 << 24) / step;
-        for i in 0..count {
-            let value = i * step + r.below(step as u64) as u32;
-            payloads::first_bits(value, &mut |c| self.case(c))?;
-        }
-        if step > 1 {
-            println!("read: too slow for all first 24 bits: {count} evenly spread values of 2^24");
-        }
-        self.report("and the first 24 bits over a zero tail");
-        Ok(())
-    }
-
-    /// Prints the counts so far.
-    fn report(&self, what: &str) {
-        let mut line = format!("read: {what}: {} cases;", self.cases);
+    /// Tells the counts so far.
+    fn tell(&self, report: &mut Report, what: &str) {
+        let mut line = format!("{what}: {} cases;", self.cases);
         for number in 5..=9 {
             line += &format!(" refusal {number}: {},", self.number(number));
         }
-        println!("{line} accepted: {}", self.accepted);
+        report.line(format_args!("{line} accepted: {}", self.accepted));
     }
 
     /// How often a refusal's number occurred.
@@ -152,7 +140,7 @@ impl Run {
     }
 
     /// Refuses a run in which a number, a place, a feature or a long form occurs too seldom.
-    fn check_cover(&self) -> Result<(), String> {
+    fn check_cover(&self, report: &mut Report) -> Result<(), String> {
         if let Some(number) = (5..=9).find(|n| self.number(*n) < LEAST) {
             return Err(format!("refusal {number} occurs too seldom"));
         }
@@ -162,35 +150,20 @@ impl Run {
             }
         }
         let rarest = self.refused.iter().min().expect("places");
-        println!(
-            "read: {} places of a refusal, each in at least {rarest} payloads",
+        report.line(format_args!(
+            "{} places of a refusal, each in at least {rarest} payloads",
             PLACES.len()
-        );
-        println!(
-            "read: long forms without need (dimensions, metadata, configuration, data): {:?}",
+        ));
+        report.line(format_args!(
+            "long forms without need (dimensions, metadata, configuration, data): {:?}",
             self.wide
-        );
+        ));
+        report.line(format_args!("{} calls", self.checker.calls));
         if self.wide.iter().any(|n| *n < LEAST) {
             return Err("a long form without need occurs too seldom".to_string());
         }
-        self.features.report()
+        self.features.check(report)
     }
-}
-
-/// The step between the values of the first 24 bits, by the time that some of them take: 1 where
-/// there is time for all.
-fn first_bits_step() -> Result<u32, String> {
-    let mut trial = Run::new();
-    let begin = Instant::now();
-    for i in 0..1 << 16 {
-        payloads::first_bits(i << 8, &mut |c| trial.case(c))?;
-    }
-    let all = begin.elapsed() * 256;
-    let mut step = 1;
-    while all / step > PATIENCE {
-        step *= 2;
-    }
-    Ok(step)
 }
 
 /// The whole payload; of a very long one, which is zero after its header, the beginning.

@@ -2,6 +2,7 @@
 
 use crate::check::Checker;
 use crate::read::shown;
+use crate::report::Report;
 use bustardcase::raw;
 use oracle::answer::Answer;
 use oracle::payloads::{self, Case};
@@ -25,7 +26,7 @@ struct Run {
     refused: u64,
 }
 
-pub fn compare() -> Result<(), String> {
+pub fn compare(report: &mut Report) -> Result<(), String> {
     let mut run = Run {
         checker: Checker::new(field),
         cases: 0,
@@ -41,10 +42,11 @@ pub fn compare() -> Result<(), String> {
         return Err("there is no room for a payload of 2^28 bytes".to_string());
     }
     payloads::structured(STRUCTURED, &mut |c| run.case(c))?;
-    println!(
-        "rewrite: {} payloads, {} refused, {} shorter than they were; {} calls",
+    report.line(format_args!(
+        "{} payloads, {} refused, {} shorter than they were; {} calls",
         run.cases, run.refused, run.shorter, run.checker.calls
-    );
+    ));
+    report.cases = run.cases;
     if run.shorter < 100_000 {
         return Err("too few payloads come out shorter".to_string());
     }
@@ -73,7 +75,9 @@ impl Run {
         };
         self.refused += (answer.number() != 0) as u64;
         self.shorter += (answer.number() == 0 && exact < 8 + payload.len()) as u64;
-        let other = [exact - 1, exact + 1, exact + 23, 0][(self.cases % 4) as usize];
+        // Shifted by one after every four cases, since they come in fours.
+        let turn = (self.cases + self.cases / 4) % 4;
+        let other = [exact - 1, exact + 1, exact + 23, 0][turn as usize];
         self.cases += 1;
         for out_len in [exact, other] {
             self.checker

@@ -11,12 +11,13 @@ pub enum Answer {
 }
 
 impl Answer {
-    /// The number that comes back for an output of `out_len` bytes.
+    /// The number that comes back for an output of `out_len` bytes: the refusal's times 2^48, plus the
+    /// length written or, under 16, needed.
     pub fn word(&self, out_len: usize) -> u64 {
         match self {
-            Answer::Refused(number) => number << 32,
+            Answer::Refused(number) => number << 48,
             Answer::Done(bytes) if out_len < bytes.len() => {
-                (SHORT_OUTPUT << 32) + bytes.len() as u64
+                (SHORT_OUTPUT << 48) + bytes.len() as u64
             }
             Answer::Done(bytes) => bytes.len() as u64,
         }

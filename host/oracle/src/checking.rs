@@ -5,25 +5,30 @@ use crate::payloads::{payload_of, plain_gain_map};
 use crate::plan::{Depth, Hdr, NO_BODIES, Plan};
 use crate::reading::{self, Reading};
 use crate::refusal::PLACES;
+use upstream::mini::MinimizedImage;
 
 /// The length of the check's layout.
 pub const CHECK_LEN: usize = 6;
 
 pub fn answer(payload: &[u8]) -> Result<Answer, String> {
-    let image = match reading::read(payload)? {
-        Reading::Refused(place) => return Ok(Answer::Refused(PLACES[place].number)),
-        Reading::Accepted(accepted) => accepted.image,
-    };
-    let conditions = [
-        !image.format.is_float(),
-        image.gain_map.is_none(),
-        image.exif.is_some(),
-        image.width <= 1_920,
-        image.height <= 1_080,
-    ];
-    let all = conditions.iter().all(|holds| *holds);
-    let flags = [all].into_iter().chain(conditions);
-    Ok(Answer::Done(flags.map(u8::from).collect()))
+    match reading::read(payload)? {
+        Reading::Refused(place) => Ok(Answer::Refused(PLACES[place].number)),
+        Reading::Accepted(accepted) => {
+            let flags = check(&accepted.image);
+            Ok(Answer::Done(flags.map(u8::from).to_vec()))
+        }
+    }
+}
+
+/// Whether all conditions hold; then each: integers, no gain map, Exif, width, height.
+pub fn check(image: &MinimizedImage) -> [bool; CHECK_LEN] {
+    let integers = !image.format.is_float();
+    let no_gain_map = image.gain_map.is_none();
+    let exif = image.exif.is_some();
+    let width = image.width <= 1_920;
+    let height = image.height <= 1_080;
+    let all = integers && no_gain_map && exif && width && height;
+    [all, integers, no_gain_map, exif, width, height]
 }
 
 /// Every combination of the conditions, with dimensions at and around their limits.

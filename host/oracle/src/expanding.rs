@@ -4,10 +4,11 @@ use crate::answer::Answer;
 use crate::payloads;
 use crate::plan::Plan;
 use crate::random::Random;
-use crate::reading::{self, Reading};
+use crate::reading::Reading;
 use crate::refusal::PLACES;
 use upstream::error::HeifError;
 use upstream::ftyp::FileType;
+use upstream::mini::MinimizedImage;
 
 /// An original file type: major brand, minor version and the bytes of the brand list.
 #[derive(Clone, Debug)]
@@ -21,15 +22,31 @@ const fn code(name: &[u8; 4]) -> u32 {
     u32::from_be_bytes(*name)
 }
 
-const MIF3: u32 = code(b"mif3");
+pub const MIF3: u32 = code(b"mif3");
 
-/// What expanding answers: the reader's refusal, then 12 to 15 as document 01 orders them, or the
-/// file. Inferred codec types are outside the domain: they are refused (14), whatever the Rust does.
-pub fn answer(payload: &[u8], original: &OriginalType) -> Result<Answer, String> {
-    let image = match reading::read(payload)? {
-        Reading::Refused(place) => return Ok(Answer::Refused(PLACES[place].number)),
-        Reading::Accepted(accepted) => accepted.image,
-    };
+impl OriginalType {
+    /// Whether the brand is one of the list.
+    pub fn lists(&self, brand: &[u8; 4]) -> bool {
+        self.brands.chunks(4).any(|b| b == brand)
+    }
+
+    /// Whether the minor version becomes the major brand.
+    pub fn is_renamed(&self) -> bool {
+        self.major == MIF3 && self.minor != 0
+    }
+}
+
+/// What expanding answers: the reader's refusal, or what it answers for the record.
+pub fn answer(reading: &Reading, original: &OriginalType) -> Result<Answer, String> {
+    match reading {
+        Reading::Refused(place) => Ok(Answer::Refused(PLACES[*place].number)),
+        Reading::Accepted(accepted) => of_record(&accepted.image, original),
+    }
+}
+
+/// 12 to 15 as document 01 orders them, or the file. Inferred codec types are outside the domain: they
+/// are refused (14), whatever the Rust does.
+pub fn of_record(image: &MinimizedImage, original: &OriginalType) -> Result<Answer, String> {
     let allowed = original.brands.len().is_multiple_of(4) && original.brands.len() <= 4096;
     let whole = original.brands.len() / 4 * 4;
     let brands = original.brands[..whole]
@@ -145,7 +162,8 @@ pub fn plain() -> Plan {
     }
 }
 
-/// A random plan with explicit types, now and then 'uuid', and alpha now and then native.
+/// A random plan with explicit types, now and then 'uuid', and alpha now and then native. Now and then
+/// a number is near the limit of its short form.
 pub fn random_plan(r: &mut Random) -> Plan {
     let mut plan = payloads::random_plan(r);
     plan.version = 0;
@@ -155,6 +173,9 @@ pub fn random_plan(r: &mut Random) -> Plan {
         types[r.below(2) as usize] = *b"uuid";
     }
     plan.types = Some(types);
+    if r.once_in(8) {
+        payloads::put_near_limit(r, &mut plan);
+    }
     if let Some(alpha) = &mut plan.alpha
         && alpha.data == 0
         && !r.once_in(8)
@@ -162,4 +183,13 @@ pub fn random_plan(r: &mut Random) -> Plan {
         alpha.data = 1;
     }
     plan
+}
+
+/// Plans with every chunk and explicit types, each with one chunk of the greatest size.
+pub fn greatest_plans() -> Vec<Plan> {
+    let mut plans = payloads::greatest_plans();
+    for plan in &mut plans {
+        plan.types = plain().types;
+    }
+    plans
 }

@@ -11,17 +11,40 @@ pub const FILE_TYPE_LEN: usize = 24;
 /// The most bytes of brands. The Rust takes any number, which docs/DIFFERENCES.md says.
 const MOST_BRANDS: usize = 4_096;
 
-pub fn answer(body: &[u8]) -> Result<Answer, String> {
+/// The refusal of a body that is no original file type.
+const REFUSAL: u64 = 28;
+
+/// Why a body is no original file type.
+#[derive(Clone, Copy, Debug, PartialEq, Eq)]
+pub enum NoFileType {
+    /// Fewer than 8 bytes.
+    Short,
+    /// Brands that are no multiple of 4 bytes.
+    Uneven,
+    /// More brands than we take.
+    Long,
+}
+
+/// What the supplied Rust reads, if it has no more brands than we take.
+pub fn file_type(body: &[u8]) -> Result<Result<FileType, NoFileType>, String> {
     let file_type = match FileType::parse(*b"ftyp", body) {
-        Err(error) => return Ok(Answer::Refused(refusal::of_file_type(&error)?)),
+        Err(error) => return Ok(Err(refusal::of_file_type(&error)?)),
         Ok(file_type) => file_type,
+    };
+    match file_type.compatible_brands.len() * 4 > MOST_BRANDS {
+        true => Ok(Err(NoFileType::Long)),
+        false => Ok(Ok(file_type)),
+    }
+}
+
+/// The answer in the layout of the exported function.
+pub fn answer(body: &[u8], read: &Result<FileType, NoFileType>) -> Result<Answer, String> {
+    let Ok(file_type) = read else {
+        return Ok(Answer::Refused(REFUSAL));
     };
     let brands = file_type.compatible_brands.concat();
     if body.get(8..) != Some(&brands[..]) {
         return Err("the Rust's brands are not what follows the first eight bytes".to_string());
-    }
-    if brands.len() > MOST_BRANDS {
-        return Ok(Answer::Refused(15));
     }
     let mut layout = file_type.major_brand.to_vec();
     layout.extend(file_type.minor_version.to_be_bytes());

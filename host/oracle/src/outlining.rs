@@ -15,35 +15,59 @@ const STORED: [u8; 11] = [6, 9, 5, 1, 2, 3, 8, 4, 7, 10, 11];
 
 const ALPHA_DATA: u8 = 8;
 
+/// A chunk's number, and its position and length where it is present.
+pub type Placed = (u8, Option<(usize, usize)>);
+
+pub struct Outline {
+    /// Where the header's parts end, in bits.
+    pub ends: [usize; PARTS],
+    pub by_size: [Placed; 11],
+    pub as_stored: [Placed; 11],
+    /// How many bytes after the last chunk are ignored.
+    pub ignored: usize,
+}
+
 pub fn answer(payload: &[u8]) -> Result<Answer, String> {
     match reading::read(payload)? {
         Reading::Refused(place) => Ok(Answer::Refused(PLACES[place].number)),
-        Reading::Accepted(accepted) => Ok(Answer::Done(layout(payload, &accepted)?)),
+        Reading::Accepted(accepted) => Ok(Answer::Done(outline(payload, &accepted)?.layout())),
     }
 }
 
-fn layout(payload: &[u8], accepted: &Accepted) -> Result<Vec<u8>, String> {
-    let mut out = Vec::with_capacity(OUTLINE_LEN);
-    for end in ends(payload, accepted)? {
-        out.extend((end as u64).to_be_bytes());
-    }
+pub fn outline(payload: &[u8], accepted: &Accepted) -> Result<Outline, String> {
     let spans = accepted.spans(payload)?;
     let last = spans.iter().flatten().last().ok_or("there is no chunk")?;
     let ignored = payload.len() - (last.0 + last.1);
-    let mut chunks: Vec<_> = STORED.into_iter().zip(spans).collect();
+    let mut as_stored: [Placed; 11] = std::array::from_fn(|i| (STORED[i], spans[i]));
     if !accepted.image.alpha {
-        let alpha = chunks.iter_mut().find(|(number, _)| *number == ALPHA_DATA);
+        let mut chunks = as_stored.iter_mut();
+        let alpha = chunks.find(|(number, _)| *number == ALPHA_DATA);
         alpha.ok_or("there is no alpha data")?.1 = None;
     }
-    let mut by_size = chunks.clone();
+    let mut by_size = as_stored;
     by_size.sort_by_key(|(number, _)| *number);
-    for (number, span) in by_size.into_iter().chain(chunks) {
-        out.push(number);
-        put_chunk(&mut out, span);
+    Ok(Outline {
+        ends: ends(payload, accepted)?,
+        by_size,
+        as_stored,
+        ignored,
+    })
+}
+
+impl Outline {
+    fn layout(&self) -> Vec<u8> {
+        let mut out = Vec::with_capacity(OUTLINE_LEN);
+        for end in self.ends {
+            out.extend((end as u64).to_be_bytes());
+        }
+        for (number, span) in self.by_size.into_iter().chain(self.as_stored) {
+            out.push(number);
+            put_chunk(&mut out, span);
+        }
+        out.extend((self.ignored as u64).to_be_bytes());
+        assert_eq!(out.len(), OUTLINE_LEN);
+        out
     }
-    out.extend((ignored as u64).to_be_bytes());
-    assert_eq!(out.len(), OUTLINE_LEN);
-    Ok(out)
 }
 
 /// Where the header's parts end: those of the plan whose header is the payload's.

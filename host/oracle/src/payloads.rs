@@ -328,6 +328,35 @@ pub fn limits(visit: &mut Visit) -> Result<bool, String> {
     Ok(true)
 }
 
+/// With every chunk, each number that has two forms once as great as can be.
+pub fn greatest_plans() -> Vec<Plan> {
+    let plan = |number: Sized| {
+        let mut plan = with_every_chunk();
+        (number.set)(&mut plan, number.limit.long());
+        plan
+    };
+    SIZED.map(plan).to_vec()
+}
+
+/// Puts one number that has two forms near the limit of the short one. For that the plan gets alpha and
+/// a gain map, both with data.
+pub fn put_near_limit(r: &mut Random, plan: &mut Plan) {
+    let alpha = plan.alpha.get_or_insert(Alpha {
+        premultiplied: false,
+        data: 1,
+        config: 0,
+    });
+    alpha.data = alpha.data.max(1);
+    let hdr = plan.hdr.get_or_insert(Hdr {
+        gain_map: None,
+        bodies: NO_BODIES,
+    });
+    let gain_map = hdr.gain_map.get_or_insert(plain_gain_map());
+    gain_map.data = gain_map.data.max(1);
+    let number = &SIZED[r.below(SIZED.len() as u64) as usize];
+    (number.set)(plan, number.limit.short() - 1 + r.below(4) as u32);
+}
+
 fn at_limit(plan: &Plan, room: &mut [u8], visit: &mut Visit) -> Result<(), String> {
     let header = plan.header();
     let header_len = header.bytes.len();

@@ -1,6 +1,7 @@
 //! The supplied Rust's errors as the numbers of refusals. A message that is not known here is a
 //! fault of the host.
 
+use crate::file_types::NoFileType;
 use upstream::error::HeifError;
 
 /// The number of an error of `parse_box_header`.
@@ -24,15 +25,15 @@ pub fn of_box_header(error: &HeifError) -> Result<u64, String> {
     }
 }
 
-/// The number of an error of `FileType::parse`.
-pub fn of_file_type(error: &HeifError) -> Result<u64, String> {
+/// The reason of an error of `FileType::parse`.
+pub fn of_file_type(error: &HeifError) -> Result<NoFileType, String> {
     let HeifError::InvalidData(message) = error else {
         return Err(unknown(error));
     };
     if message.starts_with("truncated ftyp m") {
-        Ok(17)
+        Ok(NoFileType::Short)
     } else if message.ends_with(" trailing bytes (brands are 4-byte aligned)") {
-        Ok(15)
+        Ok(NoFileType::Uneven)
     } else {
         Err(unknown(error))
     }

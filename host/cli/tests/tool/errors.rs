@@ -260,8 +260,12 @@ fn files_that_are_refused() {
     folder.put("uuid", &[&ftyp[..], b"\0\0\0\x0Auuid\0\0"].concat());
     folder.put("short-ftyp", &file(b"mif3\0\0\0", TEN));
     folder.put("odd-ftyp", &file(b"mif3\0\0\0\0mif", TEN));
+    folder.put("long-ftyp", &file(&b"mif3".repeat(2 + 1025), TEN));
     folder.put("out", b"before");
     let none = "no 'mini' box is found: refusal";
+    let no_file_type = "the 'ftyp' box: refusal 28: the payload of an 'ftyp' box is no original file \
+                        type: fewer than 8 bytes, or brands that aren't a multiple of 4 bytes or are \
+                        over 4,096 bytes";
     let cases = [
         (
             "bare-ftyp",
@@ -286,17 +290,9 @@ fn files_that_are_refused() {
             "uuid",
             format!("{none} 4: a 'uuid' box ends before its 16-byte extended type does"),
         ),
-        (
-            "short-ftyp",
-            "the 'ftyp' box: refusal 17: the payload of an 'ftyp' box has fewer than 8 bytes"
-                .to_string(),
-        ),
-        (
-            "odd-ftyp",
-            "the 'ftyp' box: refusal 15: the brands aren't a multiple of 4 bytes, or are over \
-             4,096 bytes"
-                .to_string(),
-        ),
+        ("short-ftyp", no_file_type.to_string()),
+        ("odd-ftyp", no_file_type.to_string()),
+        ("long-ftyp", no_file_type.to_string()),
     ];
     for (name, line) in cases {
         let line = format!("{name}: {line}");

@@ -1,82 +1,68 @@
-//! The typed functions of the crate `bustardcase` beside the supplied Rust: every field of the record, and
-//! the chunks as the crate hands them out.
+//! A record beside the supplied Rust's: every field, the chunks as they are handed out, and where they
+//! lie.
 
-use crate::read::shown;
-use bustardcase::{Chunk, FileType, FourCc, MiniGainMap, MiniHdrBoxes, MinimizedImage, Refusal};
-use oracle::payloads::{self, Case};
-use oracle::refusal;
+use super::same;
+use bustardcase::{Chunk, FourCc, MiniGainMap, MiniHdrBoxes, MinimizedImage, SampleFormat};
+use oracle::reading::Accepted;
 use upstream::mini as theirs;
 
-/// How many structured headers; each gives four payloads.
-const STRUCTURED: u64 = 50_000;
-
-pub fn compare() -> Result<(), String> {
-    let mut cases = 0_u64;
-    let mut accepted = 0_u64;
-    let mut case = |case: Case| {
-        let read = one(case.payload).map_err(|e| format!("payload {}\n{e}", shown(case.payload)));
-        cases += 1;
-        accepted += read? as u64;
-        Ok(())
-    };
-    payloads::shortest(&mut case)?;
-    payloads::random_tails(1 << 17, &mut case)?;
-    payloads::structured(STRUCTURED, &mut case)?;
-    println!("typed: {cases} payloads, {accepted} read");
-    match accepted >= 50_000 {
-        true => Ok(()),
-        false => Err("too few payloads are read".to_string()),
+pub fn compare(payload: &[u8], image: &MinimizedImage, accepted: &Accepted) -> Result<(), String> {
+    let their_image = told_theirs(&accepted.image);
+    same("the record", &told(payload, image), &their_image)?;
+    same_format("the format", image.format, their_image.format)?;
+    if let (Some(ours), Some(theirs)) = (&image.gain_map, &their_image.gain_map) {
+        same_format("the gain map's format", ours.format, theirs.format)?;
     }
-}
-
-/// Whether the payload is read.
-fn one(payload: &[u8]) -> Result<bool, String> {
-    let their_image = match theirs::MinimizedImage::parse(payload) {
-        Ok(image) => image,
-        Err(error) => {
-            let number = refusal::PLACES[refusal::of_parse(&error)?].number as u32;
-            return all_refuse(payload, Refusal::of_number(number)).map(|()| false);
-        }
-    };
-    let image = bustardcase::read(payload).map_err(|r| format!("read: {r}"))?;
-    same(
-        "the record",
-        &told(payload, &image),
-        &told_theirs(&their_image),
-    )?;
-    let outline = bustardcase::outline(payload).map_err(|r| format!("outline: {r}"))?;
-    let check = bustardcase::check(payload).map_err(|r| format!("check: {r}"))?;
-    let boxed = bustardcase::rewrite(payload).map_err(|r| format!("rewrite: {r}"))?;
-    let their_box = their_image.to_box().map_err(|e| e.to_string())?;
-    same("the box", &boxed, &their_box)?;
-    same(
-        "the check's width",
-        &check.width_fits,
-        &(image.width <= 1_920),
-    )?;
-    let end = outline.as_stored.iter().filter_map(|c| c.place).next_back();
-    let end = end.map_or(0, |chunk| chunk.at + chunk.len);
-    same("what is ignored", &outline.ignored, &(payload.len() - end))?;
-    Ok(true)
-}
-
-/// Every function that reads a payload must refuse it alike.
-fn all_refuse(payload: &[u8], expected: Option<Refusal>) -> Result<(), String> {
-    same("read", &bustardcase::read(payload).err(), &expected)?;
-    same("check", &bustardcase::check(payload).err(), &expected)?;
-    same("outline", &bustardcase::outline(payload).err(), &expected)?;
-    same("rewrite", &bustardcase::rewrite(payload).err(), &expected)?;
-    let expanded = bustardcase::expand(payload, &FileType::default());
-    same("expand", &expanded.err(), &expected)
-}
-
-fn same<T: PartialEq + std::fmt::Debug>(what: &str, ours: &T, theirs: &T) -> Result<(), String> {
-    match ours == theirs {
-        true => Ok(()),
-        false => Err(format!(
-            "{what} differs\n  ours {ours:?}\ntheirs {theirs:?}"
-        )),
+    let places = accepted.spans(payload)?.map(|span| {
+        let (at, len) = span?;
+        Some(Chunk { at, len })
+    });
+    same("where the chunks lie", &as_stored(image), &places)?;
+    for chunk in places.into_iter().flatten() {
+        same_part(payload, chunk)?;
     }
+    Ok(())
+}
+
+/// The methods of a sample format.
+fn same_format(what: &str, ours: SampleFormat, theirs: theirs::SampleFormat) -> Result<(), String> {
+    let told = (ours.is_float(), ours.bits());
+    same(what, &told, &(theirs.is_float(), theirs.bits()))
+}
+
+/// A chunk that passes the bytes lent hands out the empty part at their start, any other its own bytes:
+/// document 01.
+fn same_part(payload: &[u8], chunk: Chunk) -> Result<(), String> {
+    for end in [chunk.at + chunk.len, payload.len() / 2] {
+        let lent = &payload[..end];
+        let fits = chunk.at + chunk.len <= end;
+        let expected = match fits {
+            true => &payload[chunk.at..chunk.at + chunk.len],
+            false => &payload[..0],
+        };
+        let part = chunk.of(lent);
+        same("the chunk's bytes", &part, &expected)?;
+        same("where they begin", &part.as_ptr(), &expected.as_ptr())?;
+    }
+    Ok(())
+}
+
+/// Our chunks in stored order.
+fn as_stored(image: &MinimizedImage) -> [Option<Chunk>; 11] {
+    let gain_map = image.gain_map.as_ref();
+    [
+        Some(image.main_codec_config),
+        image.alpha_codec_config,
+        gain_map.and_then(|g| g.codec_config),
+        image.icc,
+        gain_map.and_then(|g| g.tmap_icc),
+        gain_map.map(|g| g.metadata),
+        Some(image.alpha_data),
+        gain_map.map(|g| g.data),
+        Some(image.main_data),
+        image.exif,
+        image.xmp,
+    ]
 }
 
 /// Our record in the supplied Rust's type: chunks as the bytes that are handed out.
