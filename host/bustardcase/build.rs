@@ -1,5 +1,6 @@
-//! Links the static libraries of the repository, which need no other. Where one is missing, or older
-//! than a file that it is proved and made from, `rt staticlib` makes it first.
+//! Links the static libraries of the repository, which need no other. Where one is missing, unfinished, or
+//! older than a file that it is proved and made from, `rt` proves and makes them first, as `./bustardcase`
+//! does.
 
 use std::fs::{self, File};
 use std::io;
@@ -21,34 +22,41 @@ fn main() {
         println!("cargo::rerun-if-changed={}", root.join(watched).display());
     }
     println!("cargo::rerun-if-changed=build.rs");
-    let folder = root.join("target/staticlib");
-    println!("cargo::rustc-link-search=native={}", folder.display());
+    println!("cargo::rustc-link-search=native={}", made(&root).display());
     for name in LIBRARIES {
-        println!("cargo::rerun-if-changed={}", path(&root, name).display());
+        println!("cargo::rerun-if-changed={}", library(&root, name).display());
         println!("cargo::rustc-link-lib=static={name}");
     }
 }
 
-fn path(root: &Path, name: &str) -> PathBuf {
-    root.join(format!("target/staticlib/lib{name}.a"))
+fn made(root: &Path) -> PathBuf {
+    root.join("target/staticlib")
+}
+
+fn library(root: &Path, name: &str) -> PathBuf {
+    made(root).join(format!("lib{name}.a"))
+}
+
+/// Stands beside a library while `rt` writes it: one that was ended meanwhile is made again.
+fn unfinished(root: &Path, name: &str) -> PathBuf {
+    made(root).join(format!("{name}.unfinished"))
 }
 
 fn bring_up_to_date(root: &Path) -> Result<(), String> {
     let newest = newest_source(root).map_err(|e| format!("crates/ cannot be read: {e}"))?;
+    let is_current = |name: &&str| {
+        let time = fs::metadata(library(root, name)).and_then(|m| m.modified());
+        time.is_ok_and(|time| time >= newest) && !unfinished(root, name).exists()
+    };
+    if LIBRARIES.iter().all(is_current) {
+        return Ok(());
+    }
+    // Here crates are proved side by side, in `rt staticlib` one after another.
+    rt(root, &[&["check"], &LIBRARIES[..]].concat())?;
     for name in LIBRARIES {
-        let library = path(root, name);
-        let made = fs::metadata(&library).and_then(|m| m.modified());
-        if made.is_ok_and(|made| made >= newest) {
-            continue;
+        if !is_current(&name) {
+            make(root, name, newest)?;
         }
-        make(root, name)?;
-        // The time of the newest source says all there is to say. The present time would be later than
-        // the start of this script, and cargo would run it a second time and link everything again.
-        File::options()
-            .append(true)
-            .open(&library)
-            .and_then(|file| file.set_modified(newest))
-            .map_err(|e| format!("target/staticlib/lib{name}.a: {e}"))?;
     }
     Ok(())
 }
@@ -70,21 +78,38 @@ fn newest_source(root: &Path) -> io::Result<SystemTime> {
     Ok(newest)
 }
 
+fn make(root: &Path, name: &str, newest: SystemTime) -> Result<(), String> {
+    let cannot = |path: PathBuf, e| format!("{}: {e}", path.display());
+    let mark = unfinished(root, name);
+    fs::create_dir_all(made(root)).map_err(|e| cannot(made(root), e))?;
+    fs::write(&mark, "").map_err(|e| cannot(mark.clone(), e))?;
+    rt(root, &["staticlib", name])?;
+    // The time of the newest source says all there is to say. The present time would be later than
+    // the start of this script, and cargo would run it a second time and link everything again.
+    File::options()
+        .append(true)
+        .open(library(root, name))
+        .and_then(|file| file.set_modified(newest))
+        .map_err(|e| cannot(library(root, name), e))?;
+    fs::remove_file(&mark).map_err(|e| cannot(mark, e))
+}
+
 /// What `rt` says goes to the standard error: cargo reads this script's standard output.
-fn make(root: &Path, name: &str) -> Result<(), String> {
+fn rt(root: &Path, words: &[&str]) -> Result<(), String> {
+    let line = format!("rt {}", words.join(" "));
     let run = Command::new("rt")
-        .args(["staticlib", name])
+        .args(words)
         .current_dir(root)
         .stdin(Stdio::null())
         .stdout(io::stderr())
         .status();
     match run {
         Ok(status) if status.success() => Ok(()),
-        Ok(status) => Err(format!("'rt staticlib {name}' ended with {status}")),
+        Ok(status) => Err(format!("'{line}' ended with {status}")),
         Err(e) if e.kind() == io::ErrorKind::NotFound => Err(
             "the library has to be made, and 'rt', the Rattle toolchain, is not found in PATH"
                 .to_string(),
         ),
-        Err(e) => Err(format!("'rt staticlib {name}' cannot be run: {e}")),
+        Err(e) => Err(format!("'{line}' cannot be run: {e}")),
     }
 }
