@@ -1,5 +1,6 @@
 -- What an exported function returns and what it leaves in its output (docs/ABI.md; demand 1): one number, the refusal's number
--- times 2^48 plus a value, which is the length written, or needed. A refusal leaves the output as it was. A success alters only the bytes it reports, from the start on.
+-- times 2^48 plus a value, which is the length written, or needed. A refusal leaves the output as it was. A success alters only the
+-- bytes it reports, from the start on.
 use mathlib.Core.Path.{_≡_}
 use mathlib.Core.Bool.{cond}
 use mathlib.Core.List.{List}
