@@ -2,4 +2,5 @@ pub mod HdrBoxes
 pub mod Lengths
 pub mod Orientation
 pub mod Pixi
+pub mod PixiLaws
 pub mod Property

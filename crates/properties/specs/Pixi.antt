@@ -4,12 +4,13 @@
 --     for each channel: unsigned int(8) bits_per_channel;
 --     for each channel: channel_idc (3), reserved (1), component_format (2), subsampling_flag (1), channel_label_flag (1);
 --                       subsampling_type (4), subsampling_location (4)
-use mathlib.Core.Bool.{Bool, true, false, cond}
+use mathlib.Core.Bool.{Bool, cond}
 use mathlib.Core.List.{List, [], _∷_, _++_, map}
-use Prim.Native.Nat.{ℕ, _+_, _*_}
+use Prim.Native.Nat.{ℕ, _+_, _-_, _*_}
 use lib.Dec.{eqb}
 use lib.ListN.{length, replicate}
 use Rattle.boxes.specs.Boxed.{boxed, fullBoxHeader}
+use Rattle.bits.specs.Bit.{toN}
 use Rattle.mini.specs.Cut.{joined}
 use Rattle.mini.specs.Views.{bitsIn}
 use Rattle.mini.specs.declared.MiniChroma.{MiniChroma}
@@ -34,12 +35,9 @@ componentFormat (Float bits) = 1
 abbrev pub subsamplingType : ℕ → ℕ
 subsamplingType subsampling = cond (eqb subsampling 1) 2 (cond (eqb subsampling 2) 1 0)
 
--- subsampling_location, from whether the chroma samples are centred horizontally and vertically
+-- subsampling_location, the chroma siting code: 2, plus 1 if the samples are centred horizontally, minus 2 if vertically
 abbrev pub subsamplingLocation : Bool → Bool → ℕ
-subsamplingLocation true true = 1
-subsamplingLocation true false = 3
-subsamplingLocation false true = 0
-subsamplingLocation false false = 2
+subsamplingLocation horizontally vertically = 2 + toN horizontally - 2 * toN vertically
 
 -- ---- the channels of a picture: channel_idc 2 is the first component, 3 and 4 the other two; 5 is alpha
 abbrev pub chromaChannel : ℕ → MiniChroma → Channel

@@ -45,19 +45,11 @@ fn subsampling_type(subsampling: u8) -> u8
     0
 }
 
+// The chroma siting code.
 fn subsampling_location(horizontally_centered: bool, vertically_centered: bool) -> u8
     ensures { λ r. ⌜ (r ≡ subsamplingLocation «horizontally_centered» «vertically_centered») × (r ≤ 3) ⌝ }
 {
-    if horizontally_centered {
-        if vertically_centered {
-            return 1;
-        }
-        return 3;
-    }
-    if vertically_centered {
-        return 0;
-    }
-    2
+    2 + horizontally_centered as u8 - 2 * (vertically_centered as u8)
 }
 
 fn put_channel(out: &mut [u8], at: usize, format: u8, idc: u8, subsampled: u8, sited: u8) -> usize

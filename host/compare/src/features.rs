@@ -3,7 +3,7 @@
 use crate::report::Report;
 use oracle::expanding::{MIF3, OriginalType};
 use oracle::reading::hdr_bodies;
-use upstream::mini::{MiniGainMap, MiniHdrBoxes, MinimizedImage, SampleFormat};
+use upstream::mini::{MiniChroma, MiniGainMap, MiniHdrBoxes, MinimizedImage, SampleFormat};
 
 /// How often each feature must occur at least; a chunk of the greatest size occurs in few payloads.
 const LEAST: u64 = 100;
@@ -111,6 +111,7 @@ impl Features {
 
     fn record(&mut self) {
         self.picture();
+        self.siting();
         self.formats();
         self.hdr();
         self.gain_map();
@@ -183,8 +184,6 @@ impl Features {
             self.add(&name, move |i| i.chroma.subsampling == n);
             self.add_of_gain_map(&name, move |g| g.chroma.subsampling == n);
         }
-        self.add("horizontally centred", |i| i.chroma.horizontally_centered);
-        self.add("vertically centred", |i| i.chroma.vertically_centered);
         for n in 1..=8 {
             self.add(&format!("orientation {n}"), move |i| i.orientation == n);
         }
@@ -193,6 +192,29 @@ impl Features {
             self.add(&format!("height {n}"), move |i| i.height == n);
             self.add_of_gain_map(&format!("width {n}"), move |g| g.width == n);
             self.add_of_gain_map(&format!("height {n}"), move |g| g.height == n);
+        }
+    }
+
+    /// Every pair of centring flags that a subsampling stores: both for 4:2:0, the horizontal one for 4:2:2.
+    fn siting(&mut self) {
+        for (subsampling, horizontally, vertically) in [
+            (1, false, false),
+            (1, false, true),
+            (1, true, false),
+            (1, true, true),
+            (2, false, false),
+            (2, true, false),
+        ] {
+            let name = format!(
+                "subsampling {subsampling}, centred horizontally: {horizontally}, vertically: {vertically}"
+            );
+            let is = move |c: MiniChroma| {
+                c.subsampling == subsampling
+                    && c.horizontally_centered == horizontally
+                    && c.vertically_centered == vertically
+            };
+            self.add(&name, move |i| is(i.chroma));
+            self.add_of_gain_map(&name, move |g| is(g.chroma));
         }
     }
 
@@ -253,8 +275,6 @@ impl Features {
                 .is_some_and(|g| (g.width, g.height) != (i.width, i.height))
         });
         self.add_of_gain_map("full range", |g| g.full_range);
-        self.add_of_gain_map("horizontally centred", |g| g.chroma.horizontally_centered);
-        self.add_of_gain_map("vertically centred", |g| g.chroma.vertically_centered);
         self.add_of_gain_map("cicp", |g| g.tmap_cicp.is_some());
         self.add_of_gain_map("cicp of full range", |g| g.tmap_cicp.is_some_and(|c| c.3));
         self.add_of_gain_map("no cicp", |g| g.tmap_cicp.is_none());
