@@ -245,6 +245,8 @@ static void check(void)
     ROW(CHECK_EXIF_PRESENT, one);
     ROW(CHECK_WIDTH_FITS, one);
     ROW(CHECK_HEIGHT_FITS, one);
+    ROW(CHECK_SHOWN_WIDTH, four);
+    ROW(CHECK_SHOWN_HEIGHT, four);
 }
 
 static void outline(void)

@@ -123,8 +123,8 @@ enum bustardcase_record_layout {
     BUSTARDCASE_RECORD_HORIZONTALLY_CENTERED = 13, /* 1: flag */
     BUSTARDCASE_RECORD_VERTICALLY_CENTERED = 14,   /* 1: flag */
     BUSTARDCASE_RECORD_ORIENTATION = 15,           /* 1: 1 to 8, as in Exif */
-    BUSTARDCASE_RECORD_WIDTH = 16,                 /* 4 */
-    BUSTARDCASE_RECORD_HEIGHT = 20,                /* 4 */
+    BUSTARDCASE_RECORD_WIDTH = 16,                 /* 4: as stored; bustardcase_check has it as shown */
+    BUSTARDCASE_RECORD_HEIGHT = 20,                /* 4: likewise */
     BUSTARDCASE_RECORD_HAS_CICP = 24,              /* 1: flag, explicit cicp */
     BUSTARDCASE_RECORD_PRIMARIES = 25,             /* 1 */
     BUSTARDCASE_RECORD_TRANSFER = 26,              /* 1 */
@@ -164,17 +164,20 @@ enum bustardcase_record_layout {
     BUSTARDCASE_RECORD_LEN = 441
 };
 
-/* The desk check of a payload's record. Refusals 5, 6, 7, 8, 9, 16. Each field is a flag of 1 byte. */
+/* The desk check of a payload's record. Refusals 5, 6, 7, 8, 9, 16. Width and height are those of the picture as shown: the
+   orientations 5 to 8 exchange the stored ones. */
 uint64_t bustardcase_check(const uint8_t *payload, size_t payload_len, uint8_t *out, size_t out_len);
 
 enum bustardcase_check_layout {
-    BUSTARDCASE_CHECK_PASSES = 0,          /* the display takes the picture as it is: all of the following hold */
-    BUSTARDCASE_CHECK_INTEGER_SAMPLES = 1, /* the samples are integers */
-    BUSTARDCASE_CHECK_NO_GAIN_MAP = 2,     /* there is no gain map */
-    BUSTARDCASE_CHECK_EXIF_PRESENT = 3,    /* Exif is present */
-    BUSTARDCASE_CHECK_WIDTH_FITS = 4,      /* the width is at most 1,920 */
-    BUSTARDCASE_CHECK_HEIGHT_FITS = 5,     /* the height is at most 1,080 */
-    BUSTARDCASE_CHECK_LEN = 6
+    BUSTARDCASE_CHECK_PASSES = 0,          /* 1: flag, the display takes the picture as it is: the next five hold */
+    BUSTARDCASE_CHECK_INTEGER_SAMPLES = 1, /* 1: flag, the samples are integers */
+    BUSTARDCASE_CHECK_NO_GAIN_MAP = 2,     /* 1: flag, there is no gain map */
+    BUSTARDCASE_CHECK_EXIF_PRESENT = 3,    /* 1: flag, Exif is present */
+    BUSTARDCASE_CHECK_WIDTH_FITS = 4,      /* 1: flag, the width as shown is at most 1,920 */
+    BUSTARDCASE_CHECK_HEIGHT_FITS = 5,     /* 1: flag, the height as shown is at most 1,080 */
+    BUSTARDCASE_CHECK_SHOWN_WIDTH = 6,     /* 4 */
+    BUSTARDCASE_CHECK_SHOWN_HEIGHT = 10,   /* 4 */
+    BUSTARDCASE_CHECK_LEN = 14
 };
 
 /* Where the parts of a payload lie (in libexports_outline.a). Refusals 5, 6, 7, 8, 9, 16.

@@ -1,7 +1,6 @@
 // The functions that C and Rust programs call, on numbers and byte slices. docs/ABI.md has their numbers and layouts.
 pub mod answer;
 
-ghost use mathlib.Core.Path.{_≡_};
 ghost use Rattle.boxes.specs.Find.{findBox};
 ghost use Rattle.boxes.specs.Header.{headerAt};
 ghost use Rattle.expander.specs.EquivalentFile.{file};
@@ -137,9 +136,9 @@ pub extern "C" fn bustardcase_check(payload: &[u8], out: &mut [u8]) -> u64
     if refusal != 0 {
         return answer::refused(refusal);
     }
-    if out.len() < 6 {
-        return answer::too_short(6);
+    if out.len() < 14 {
+        return answer::too_short(14);
     }
     put_check(out, 0, image);
-    6
+    14
 }

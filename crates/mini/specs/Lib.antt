@@ -21,6 +21,7 @@ pub mod Refusals
 pub mod RoundTrip
 pub mod RustVectors
 pub mod Same
+pub mod ShownSize
 pub mod SomePayload
 pub mod Syntax
 pub mod TrailingIgnored

@@ -6,6 +6,7 @@ ghost use Rattle.mini.specs.Chunks.{isPresent};
 ghost use Rattle.mini.specs.Cicp.{tableCicp, cicpOf};
 ghost use Rattle.mini.specs.DisplayProfile.{displayConditions, meetsDisplayProfile};
 ghost use Rattle.mini.specs.Same.{chunkLen};
+ghost use Rattle.mini.specs.ShownSize.{shownSize};
 ghost use Rattle.mini.specs.Views.{isFloat, hasCicp, hasCodecTypes, hasTmapCicp};
 
 pub enum SampleFormat {
@@ -242,7 +243,13 @@ impl ItemKind {
     pub const XMP: u16 = 7;
 }
 
-// What the desk check asks of a record, each by itself (document 01).
+// Width and height.
+pub struct Size {
+    pub width: u32,
+    pub height: u32,
+}
+
+// What the desk check asks of a record, each by itself (document 01); the size is the one as shown.
 pub struct DisplayConditions {
     pub integer_samples: bool,
     pub no_gain_map: bool,
@@ -377,6 +384,22 @@ impl MinimizedImage {
         }
     }
 
+    // Width and height as shown: the orientations 5 to 8 exchange them.
+    pub fn shown_size(self) -> Size
+        ensures { λ r. ⌜ r ≡ shownSize self ⌝ }
+    {
+        match self.orientation {
+            5..=8 => Size {
+                width: self.height,
+                height: self.width,
+            },
+            _ => Size {
+                width: self.width,
+                height: self.height,
+            },
+        }
+    }
+
     pub fn display_conditions(self) -> DisplayConditions
         ensures { λ r. ⌜ r ≡ displayConditions self ⌝ }
     {
@@ -384,12 +407,13 @@ impl MinimizedImage {
         let exif = self.exif;
         let float = format.is_float();
         let exif_present = exif.is_present();
+        let size = self.shown_size();
         DisplayConditions {
             integer_samples: !float,
             no_gain_map: !self.has_gain_map,
             exif_present,
-            width_fits: self.width <= MAX_DISPLAY_WIDTH,
-            height_fits: self.height <= MAX_DISPLAY_HEIGHT,
+            width_fits: size.width <= MAX_DISPLAY_WIDTH,
+            height_fits: size.height <= MAX_DISPLAY_HEIGHT,
         }
     }
 

@@ -1,11 +1,11 @@
 -- 'ipco', 'ipma' and 'iprp' are as long as the record alone says, where its chunks lie in the source.
 use mathlib.Core.Path.{_≡_, refl, _∙_}
-use mathlib.Core.Bool.{Bool, true, false, not, cond, _||_}
+use mathlib.Core.Bool.{Bool, true, false, not, _||_}
 use mathlib.Core.List.{List, [], _++_}
 use Prim.Native.Nat.{ℕ, zero, suc, _+_, _*_}
 use native.Mathlib.Omega.{arith}
 use borrow.Author.Tests.{ltb-false}
-use lib.Dec.{leb, ltb}
+use lib.Dec.{ltb}
 use lib.ListN.{length, take, drop, replicate, length-append, length-drop}
 use lib.Seq.{length-take-le}
 use Rattle.octets.specs.BigEndianLaws.{length-be}
@@ -13,6 +13,7 @@ use Rattle.boxes.specs.Boxed.{length-boxed, length-fullBoxHeader}
 use Rattle.mini.specs.Chunks.{isPresent}
 use Rattle.mini.specs.Cut.{sum}
 use Rattle.mini.specs.Same.{spanBytes}
+use Rattle.mini.specs.ShownSize.{shownSize}
 use Rattle.mini.specs.Views.{hasTmapCicp}
 use Rattle.mini.specs.declared.Chunk.{Chunk}
 use Rattle.mini.specs.declared.Chunk.the-variants as chunk-is
@@ -24,7 +25,7 @@ use Rattle.mini.specs.declared.TmapCicp.{TmapCicp}
 use Rattle.mini.specs.declared.TmapCicp.the-variants as tmap-is
 use Rattle.properties.specs.HdrBoxes.{clli, clliLen, mdcv, mdcvLen, cclv, cclvLen, amve, amveLen, reve, reveLen, ndwt, ndwtLen}
 use Rattle.properties.specs.Lengths.{length-ispe, length-nclx, length-prof, length-codecConfig, length-auxC, length-irot, length-imir, length-pixi, length-clli, length-mdcv, length-cclv, length-amve, length-reve, length-ndwt}
-use Rattle.properties.specs.Property.{ispe, ispeLen, nclxLen, codecConfig}
+use Rattle.properties.specs.Property.{ispeLen, nclxLen, codecConfig}
 use Rattle.properties.specs.declared.Turn.{Turn}
 use Rattle.properties.specs.declared.Turn.the-variants.{Unturned, By}
 use Rattle.slots.specs.Associations.{row, rowIf, ipmaBody, ipmaWith, ipma, iprp}
@@ -71,11 +72,7 @@ length-colour tmap-is.Absent = length-nclx 1 13 6 true
 length-colour (tmap-is.Present primaries transfer matrix full) = length-nclx primaries transfer matrix full
 
 length-shown : (i : MinimizedImage) → length (shownIspe i) ≡ ispeLen
-length-shown i = go (leb (i .orientation) 4)
-  where
-    go : (t : Bool) → length (cond t (ispe (i .width) (i .height)) (ispe (i .height) (i .width))) ≡ ispeLen
-    go true = length-ispe (i .width) (i .height)
-    go false = length-ispe (i .height) (i .width)
+length-shown i = length-ispe (shownSize i .width) (shownSize i .height)
 
 -- ---- the groups
 length-unused : (n : ℕ) → length (slotsBytes (replicate n none)) ≡ 8 * n

@@ -15,16 +15,17 @@
 --     23          'colr' prof                   a gain map with an ICC profile for the tone map
 --     24 to 29    the HDR boxes                 a gain map, and it holds the body
 --     30, 31, 32  none                          never
-use mathlib.Core.Bool.{Bool, true, false, not, cond, _&&_, _||_}
+use mathlib.Core.Bool.{Bool, true, false, not, _&&_, _||_}
 use mathlib.Core.List.{List, [], _∷_, _++_, map}
 use Prim.Native.Nat.{ℕ, _+_}
-use lib.Dec.{ltb, leb}
+use lib.Dec.{ltb}
 use lib.ListN.{length, replicate}
 use Rattle.boxes.specs.Boxed.{boxed}
 use Rattle.mini.specs.Chunks.{isPresent}
 use Rattle.mini.specs.Cicp.{cicpOf}
 use Rattle.mini.specs.Cut.{joined}
 use Rattle.mini.specs.Same.{chunkBytes, spanBytes}
+use Rattle.mini.specs.ShownSize.{shownSize}
 use Rattle.mini.specs.Views.{hasTmapCicp}
 use Rattle.mini.specs.declared.Chunk.{Chunk}
 use Rattle.mini.specs.declared.Chunk.the-variants as chunk-is
@@ -158,9 +159,9 @@ gainMapSlots i s =
     ∷ some (nclx 2 2 (i .«gain_map» .«matrix_coefficients») (i .«gain_map» .«full_range»))
     ∷ []
 
--- the size as shown: the orientations 5 to 8 exchange width and height
+-- the size as shown
 abbrev pub shownIspe : MinimizedImage → List ℕ
-shownIspe i = cond (leb (i .orientation) 4) (ispe (i .width) (i .height)) (ispe (i .height) (i .width))
+shownIspe i = ispe (shownSize i .width) (shownSize i .height)
 
 -- 21 to 23, the tone map: size, colour, profile
 unfoldable pub tmapSlots : MinimizedImage → List ℕ → List Slot

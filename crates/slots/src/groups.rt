@@ -189,16 +189,13 @@ fn put_gain_map_slots(out: &mut [u8], at: usize, image: MinimizedImage, source: 
     }
 }
 
-// The size as shown: the orientations 5 to 8 exchange width and height.
+// The size as shown.
 fn put_shown_ispe(out: &mut [u8], at: usize, image: MinimizedImage) -> usize
     requires { ⌜ at + ispeLen ≤ length (now out) ⌝ }
     ensures { λ r. ⌜ Wrote (now (out .entry)) at ispeLen (shownIspe image) (now (out .exit)) r ⌝ }
 {
-    if image.orientation <= 4 {
-        put_ispe(out, at, image.width, image.height)
-    } else {
-        put_ispe(out, at, image.height, image.width)
-    }
+    let size = image.shown_size();
+    put_ispe(out, at, size.width, size.height)
 }
 
 fn put_tmap_item_slots(out: &mut [u8], at: usize, image: MinimizedImage, source: &[u8]) -> usize

@@ -148,9 +148,9 @@ pub struct MinimizedImage {
     pub chroma: MiniChroma,
     /// The orientation, 1 to 8, as in Exif.
     pub orientation: u8,
-    /// The width, 1 to 32,768.
+    /// The width as stored, 1 to 32,768; [`crate::Check`] has the size as shown.
     pub width: u32,
-    /// The height, 1 to 32,768.
+    /// The height as stored, 1 to 32,768.
     pub height: u32,
     /// The main picture's code points, where they are explicit.
     pub explicit_cicp: Option<Cicp>,

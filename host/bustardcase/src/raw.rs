@@ -107,7 +107,7 @@ pub fn read(payload: &[u8], out: &mut [u8]) -> u64 {
     unsafe { c::bustardcase_read(payload.as_ptr(), payload.len(), out.as_mut_ptr(), out.len()) }
 }
 
-/// The desk check of the record of `payload`, as 6 bytes.
+/// The desk check of the record of `payload`, as 14 bytes.
 pub fn check(payload: &[u8], out: &mut [u8]) -> u64 {
     // SAFETY: as in `box_header`.
     unsafe { c::bustardcase_check(payload.as_ptr(), payload.len(), out.as_mut_ptr(), out.len()) }

@@ -35,7 +35,9 @@ usage: bustardcase show [--json] FILE
 Prints every field of the record that the payload reads to, one to a line, and
 of each chunk the position and the length. Positions count from the payload's
 first byte; for a file, 'payload_position' says where in the file that is.
-An absent field or chunk is 'none'.
+An absent field or chunk is 'none'. 'orientation_meaning' has the orientation in
+words. 'width' and 'height' are as stored, 'shown_width' and 'shown_height' as
+shown: the orientations 5 to 8 turn the picture by a quarter and exchange them.
 
 FILE   a file with an 'ftyp' and a 'mini' box, or a bare payload; '-' is the
        standard input
@@ -71,13 +73,16 @@ usage: bustardcase check [--json] FILE
 The desk check: does the display take the picture as it is? Prints yes or no,
 and of each of the five conditions whether it holds or fails: the samples are
 integers, there is no gain map, Exif is present, the width is at most 1,920 and
-the height at most 1,080.
+the height at most 1,080. Width and height are those of the picture as shown:
+the orientations 5 to 8 turn it by a quarter and exchange the stored ones. Where
+the size as shown isn't the stored one, both are printed.
 
 FILE   a file with an 'ftyp' and a 'mini' box, or a bare payload; '-' is the
        standard input
 
 --json prints one JSON object: 'passes' and the five conditions, as true and
-false. A refused picture gives an object with the one name 'refusal'.
+false; 'shown_width' and 'shown_height'; 'width', 'height' and 'orientation' as
+stored. A refused picture gives an object with the one name 'refusal'.
 
 exit status:  0 yes, 1 no or refused, 2 wrong usage or a file that cannot be
               read

@@ -1,9 +1,10 @@
-//! The record and the file type as named values. The names are those of the crate's fields.
+//! The record and the file type as named values. The names are those of the crate's fields; `orientation_meaning`
+//! is the tool's own.
 
 use crate::tree::{Group, Value};
 use Value::{Chunk, Code, Flag, Number};
 use bustardcase::{
-    Cicp, CodecTypes, FileType, MiniChroma, MiniGainMap, MiniHdrBoxes, MinimizedImage,
+    Check, Cicp, CodecTypes, FileType, MiniChroma, MiniGainMap, MiniHdrBoxes, MinimizedImage,
     SampleFormat, TmapCicp,
 };
 
@@ -19,7 +20,20 @@ pub fn of_file_type(file_type: &FileType) -> Value {
     ])
 }
 
-pub fn of_image(image: &MinimizedImage) -> Group {
+/// How the picture is shown, by orientation from 1: turned first, then mirrored.
+const ORIENTATIONS: [&str; 8] = [
+    "as stored",
+    "mirrored left to right",
+    "turned by a half",
+    "mirrored top to bottom",
+    "turned anticlockwise by a quarter, then mirrored top to bottom",
+    "turned clockwise by a quarter",
+    "turned anticlockwise by a quarter, then mirrored left to right",
+    "turned anticlockwise by a quarter",
+];
+
+/// The fields of the record, with the orientation in words and the size as shown.
+pub fn of_image(image: &MinimizedImage, check: &Check) -> Group {
     vec![
         (
             "explicit_codec_types",
@@ -29,8 +43,11 @@ pub fn of_image(image: &MinimizedImage) -> Group {
         ("full_range", Flag(image.full_range)),
         ("chroma", of_chroma(image.chroma)),
         ("orientation", Number(image.orientation.into())),
+        ("orientation_meaning", meaning_of(image.orientation)),
         ("width", Number(image.width.into())),
         ("height", Number(image.height.into())),
+        ("shown_width", Number(check.shown_width.into())),
+        ("shown_height", Number(check.shown_height.into())),
         ("explicit_cicp", Value::maybe(image.explicit_cicp, of_cicp)),
         ("icc", Value::maybe(image.icc, Chunk)),
         ("alpha", Flag(image.alpha)),
@@ -52,6 +69,10 @@ pub fn of_image(image: &MinimizedImage) -> Group {
         ("exif", Value::maybe(image.exif, Chunk)),
         ("xmp", Value::maybe(image.xmp, Chunk)),
     ]
+}
+
+fn meaning_of(orientation: u8) -> Value {
+    Value::Word(ORIENTATIONS[usize::from(orientation) - 1])
 }
 
 fn of_types(types: CodecTypes) -> Value {

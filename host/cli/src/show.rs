@@ -1,4 +1,4 @@
-//! `show`: every field of the record.
+//! `show`: every field of the record, the orientation in words, and the size as shown.
 
 use crate::failure::Failure;
 use crate::input::Input;
@@ -18,6 +18,7 @@ pub fn run(file: &OsStr, as_json: bool) -> Result<(), Failure> {
 fn fields(file: &OsStr) -> Result<Group, Failure> {
     let input = Input::open(file)?;
     let image = input.taken(bustardcase::read(input.payload()))?;
+    let check = input.taken(bustardcase::check(input.payload()))?;
     let mut fields = vec![
         (
             "file_type",
@@ -26,6 +27,6 @@ fn fields(file: &OsStr) -> Result<Group, Failure> {
         ("payload_position", Value::size(input.payload_start())),
         ("payload_length", Value::size(input.payload().len())),
     ];
-    fields.extend(record::of_image(&image));
+    fields.extend(record::of_image(&image, &check));
     Ok(fields)
 }

@@ -72,7 +72,7 @@ fn words(value: &Value, digits: usize) -> Vec<String> {
         Value::Absent => vec!["none".to_string()],
         Value::Flag(flag) => vec![if *flag { "yes" } else { "no" }.to_string()],
         Value::Number(number) => vec![number.to_string()],
-        Value::Word(word) => vec![word.to_string()],
+        Value::Word(word) => word.split(' ').map(str::to_string).collect(),
         Value::Code(code) => vec![code.to_string()],
         Value::Bytes(bytes) => bytes.iter().map(|b| format!("{b:02x}")).collect(),
         Value::Chunk(chunk) => vec![format!(

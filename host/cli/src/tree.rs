@@ -6,6 +6,7 @@ pub enum Value {
     Absent,
     Flag(bool),
     Number(u64),
+    /// A word, or several.
     Word(&'static str),
     Code(FourCc),
     Bytes(Vec<u8>),

@@ -186,6 +186,11 @@ impl Features {
         }
         for n in 1..=8 {
             self.add(&format!("orientation {n}"), move |i| i.orientation == n);
+            // The tone map has the size as shown.
+            self.add(
+                &format!("orientation {n}, gain map, unequal sides"),
+                move |i| i.orientation == n && i.gain_map.is_some() && i.width != i.height,
+            );
         }
         for n in [1, 127, 128, 129, 32_767, 32_768] {
             self.add(&format!("width {n}"), move |i| i.width == n);

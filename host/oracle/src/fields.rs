@@ -34,6 +34,8 @@ pub fn of_check(byte: usize) -> String {
     ] {
         fields.add(name, 1);
     }
+    fields.add("width as shown", 4);
+    fields.add("height as shown", 4);
     fields.at(byte)
 }
 

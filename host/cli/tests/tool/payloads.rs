@@ -72,6 +72,12 @@ pub fn picture(width: u32, height: u32, float: bool, exif: bool) -> Vec<u8> {
     payload
 }
 
+/// The payload under another orientation than 1: the low bits of its second byte.
+pub fn oriented(orientation: u8, mut payload: Vec<u8>) -> Vec<u8> {
+    payload[1] |= orientation - 1;
+    payload
+}
+
 /// A payload with every flag, every HDR body, a gain map and every chunk, each of another length. The
 /// long forms are taken without need, and `tail` follows the last chunk.
 pub fn everything(main_data: u32, tail: &[u8]) -> Vec<u8> {

@@ -2,7 +2,7 @@
 
 use crate::folder::{Folder, assert_within_80_columns};
 use crate::json::Json;
-use crate::payloads::{FTYP, SMALLEST, everything, file};
+use crate::payloads::{FTYP, SMALLEST, everything, file, oriented, picture};
 
 #[test]
 fn the_smallest_payload() {
@@ -20,6 +20,36 @@ fn a_file_with_everything() {
     let text = folder.run(&["show", "in"]).text(0);
     assert_eq!(text, include_str!("expected/show-everything.txt"));
     assert_within_80_columns(&text);
+}
+
+#[test]
+fn every_orientation_in_words() {
+    let folder = Folder::new("show-orientations");
+    let meanings = [
+        "as stored",
+        "mirrored left to right",
+        "turned by a half",
+        "mirrored top to bottom",
+        "turned anticlockwise by a quarter, then mirrored top to bottom",
+        "turned clockwise by a quarter",
+        "turned anticlockwise by a quarter, then mirrored left to right",
+        "turned anticlockwise by a quarter",
+    ];
+    for (orientation, meaning) in (1..).zip(meanings) {
+        folder.put("in", &oriented(orientation, picture(48, 32, false, false)));
+        let text = folder.run(&["show", "in"]).text(0);
+        assert_within_80_columns(&text);
+        let words: Vec<&str> = text.split_whitespace().collect();
+        let sizes = match orientation {
+            1..=4 => "width 48 height 32 shown_width 48 shown_height 32",
+            _ => "width 48 height 32 shown_width 32 shown_height 48",
+        };
+        let expected = format!(" orientation {orientation} orientation_meaning {meaning} {sizes} ");
+        assert!(words.join(" ").contains(&expected), "{text}");
+        let json = Json::parse(&folder.run(&["show", "--json", "in"]).text(0));
+        let told = Json::Text(meaning.to_string());
+        assert_eq!(json.at("orientation_meaning"), &told);
+    }
 }
 
 #[test]
@@ -76,6 +106,11 @@ fn json_of_a_file_with_everything() {
     assert_eq!(json.at("format.kind"), &text("float"));
     assert_eq!(number("format.bits"), 32);
     assert_eq!((number("width"), number("height")), (1920, 1080));
+    assert_eq!(number("orientation"), 6);
+    assert_eq!(
+        (number("shown_width"), number("shown_height")),
+        (1080, 1920)
+    );
     assert_eq!(json.at("hdr_boxes.clli"), &text("10111213"));
     assert_eq!(number("gain_map.tmap_cicp.matrix"), 14);
     assert_eq!(json.at("exif_xmp_compressed"), &Json::Flag(true));
@@ -112,6 +147,6 @@ fn json_has_the_same_names_as_the_text() {
         let name = line.split(' ').next().expect("a name");
         json.at(name);
     }
-    assert_eq!(json.names().len(), 24);
+    assert_eq!(json.names().len(), 27);
     assert_eq!(json.at("gain_map").names().len(), 12);
 }

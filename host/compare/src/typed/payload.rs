@@ -5,7 +5,7 @@ use crate::read::shown;
 use crate::report::Report;
 use bustardcase::{Check, FileType, FourCc};
 use oracle::answer::Answer;
-use oracle::checking;
+use oracle::checking::{self, FLAGS};
 use oracle::expanding::{self, OriginalType};
 use oracle::payloads::{self, Case};
 use oracle::random::Random;
@@ -32,7 +32,7 @@ struct Run {
     /// How often each answer of expanding came, 0 for a file.
     expanded: [u64; 17],
     /// How often each of the check's six says yes, and how often no.
-    checked: [[u64; 2]; 6],
+    checked: [[u64; 2]; FLAGS],
 }
 
 pub fn compare(report: &mut Report) -> Result<(), String> {
@@ -42,7 +42,7 @@ pub fn compare(report: &mut Report) -> Result<(), String> {
         cases: 0,
         read: 0,
         expanded: [0; 17],
-        checked: [[0; 2]; 6],
+        checked: [[0; 2]; FLAGS],
     };
     let mut plans = Random::new(0x6275_7374_6172_6437);
     for payload in checking::payloads() {
@@ -103,7 +103,8 @@ impl Run {
     }
 
     fn check(&mut self, payload: &[u8], accepted: &Accepted) -> Result<(), String> {
-        let flags = checking::check(&accepted.image);
+        let (shown_width, shown_height) = checking::shown(&accepted.image);
+        let flags = checking::flags(&accepted.image, shown_width, shown_height);
         for (seen, flag) in self.checked.iter_mut().zip(flags) {
             seen[flag as usize] += 1;
         }
@@ -122,6 +123,8 @@ impl Run {
             exif_present,
             width_fits,
             height_fits,
+            shown_width,
+            shown_height,
         };
         same("the check", &bustardcase::check(payload), &Ok(expected))
     }

@@ -5,7 +5,7 @@ use Rattle.mini.proofs.MinimizedImage.display_conditions.Tie as tie
 
 returns : tie.Need-returns
 unfolding displayConditions
-returns c = rw (c .before .before .before .before .is-float .ensures, c .before .before .before .is-present .ensures)
+returns c = rw (c .before .before .before .before .before .is-float .ensures, c .before .before .before .before .is-present .ensures, c .before .before .before .shown-size .ensures)
 
 pub display-conditions-spec : {M : Type 1} → statement M
-display-conditions-spec = tie.close (tie.spec (λ c κs. search needs) (λ c κs. search needs) returns)
+display-conditions-spec = tie.close (tie.spec (λ c κs. search needs) (λ c κs. search needs) (λ c κs. search needs) returns)
