@@ -1,15 +1,15 @@
 -- Laws of writing bits: how runs of bits compose, what a number of bits stores, and one rule for each way in which formats are put
 -- together. Assumes nothing.
-use Rattle.std.specs.Prelude.{◌≡◌, ℕ, zero, suc, ◌+◌, ◌-◌, ◌*◌, ◌/◌, ◌%◌, ◌^◌, ◌<◌, ◌≤◌, Bool, true, false, ◌&&◌, T, ◌↔◌, List, [], ◌∷◌, ◌++◌, length, take, drop, replicate, ◌==◌, ◌≢◌, nat_lt, slice_index, slice_set}
+use Rattle.std.specs.Prelude.{◌≡◌, ℕ, zero, suc, ◌+◌, ◌*◌, ◌/◌, ◌%◌, ◌^◌, ◌<◌, ◌≤◌, Bool, true, false, ◌&&◌, T, ◌↔◌, List, [], ◌∷◌, ◌++◌, length, take, drop, replicate, ◌==◌, ◌≢◌, nat_lt, slice_index, slice_set}
 use Rattle.std.proofs.Math.Path.{refl, ap}
-use Rattle.std.proofs.Common.{sym, ap₂, ◌∙◌, subst, true≢false, append_assoc, append-nil, pow-suc, add-suc, add-zero, mul_assoc, mul_comm, div-one, div-add-mod', mod-lt, mul-le-mul_right, pow_pos, pow_mono, arith, length-set, length-append, drop_of_length-le, add-one, drop-cons, take_all, eq-eqb, ne_eqb, lt-ltb}
+use Rattle.std.proofs.Common.{sym, ap₂, ◌∙◌, subst, true≢false, append_assoc, append-nil, pow-suc, add-suc, add-zero, mul_assoc, div-one, div-add-mod', mod-lt, mul-le-mul_right, pow_pos, arith, length-set, drop_of_length-le, add-one, drop-cons, take_all, eq-eqb, ne_eqb, lt-ltb}
 use Rattle.std.proofs.lemmas.Bool.{false≢true}
 use Rattle.std.proofs.Math.Nat.{pow-succ', div-div-eq-div-mul, mul-add-div_right, div-eq_of_lt}
 use Rattle.std.proofs.Math.Pow.{are_bytes}
 use Rattle.std.proofs.lemmas.List.Edits.{sets}
 use Rattle.bits.specs.Bit.{to_n, odd, val, bits_n, bits_onto, bits_of, bits_onto_is, bits_onto-append, length-bits_n, val-bits_n}
 use Rattle.bits.specs.State.{bytes_of, is_reading_refusal}
-use Rattle.bits.specs.Format.{Format, field, flag, flag_if, field_if, minus1_if, choose, view, renamed, const, ensure, exactly, bytes, is_list, listed, ◌>>=◌, ◌>>◌}
+use Rattle.bits.specs.Format.{Format, field, flag, flag_if, field_if, minus1_if, choose, view, const, exactly, bytes, is_list, listed, ◌>>=◌, ◌>>◌}
 use Rattle.bit_writer.specs.Writer.{feed, place, waiting, fits, Fed, Tested, Puts, all_zero}
 use Rattle.bit_writer.specs.declared.BitWriter.{BitWriter}
 

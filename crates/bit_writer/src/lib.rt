@@ -1,5 +1,7 @@
 // A writer of bits, high bit first: the state goes in and comes back by value. A byte past the end of the output is not
 // stored. A value that its field cannot hold leaves a fault, which stays.
+#![tactic(auto)]
+
 ghost use Rattle.std.specs.Prelude.{◌≡◌, ◌+◌, ◌-◌, ◌%◌, ◌^◌, ◌≤◌, true, ◌&&◌, [], ◌++◌, length, take, drop, slice_set};
 ghost use Rattle.bits.specs.Bit.{bits_n, bits_of};
 ghost use Rattle.bits.specs.Format.{field, flag, field_if, flag_if, minus1_if, offset, sized, bytes_for};
@@ -9,7 +11,7 @@ use bits::BitPos;
 
 // A writer's state: the bit that comes next, the bits since the last whole byte as the low bits of a number, and whether a
 // value did not fit its field (0: none).
-#[derive(Drop)]
+#[derive(Clone, Copy)]
 pub struct BitWriter {
     pub at: BitPos,
     pub bits: usize,
@@ -35,7 +37,7 @@ fn wide(x: u8) -> usize
 fn power(n: u32) -> usize
     requires { n ≤ 32 }
     ensures value { result ≡ 2 ^ n }
-    ensures lower_bound { (1 ≤ result) × (result ≤ 4294967296) }
+    ensures bounds { (1 ≤ result) × (result ≤ 4294967296) }
 {
     1 << n
 }
@@ -103,7 +105,7 @@ impl BitWriter {
     fn feed(self, out: &mut [u8], n: u32, v: usize) -> BitWriter
         requires { n ≤ 32 }
         ensures fed { Fed out.old self (bits_n n v) out.new result }
-        ensures result_value { fits result ≡ fits self }
+        ensures fits_as_before { fits result ≡ fits self }
     {
         let j = (self.at.1 % 8) as u32;
         let all = join(self.bits, j, n, v);
@@ -206,7 +208,7 @@ impl BitWriter {
     pub fn bytes(self, out: &mut [u8], s: &[u8], n: usize) -> BitWriter
         requires { n ≤ length s.now }
         ensures fed { Fed out.old self (bits_of (take n s.now)) out.new result }
-        ensures result_value { fits result ≡ fits self }
+        ensures fits_as_before { fits result ≡ fits self }
     {
         let mut w = self;
         let mut i = 0;

@@ -1,5 +1,5 @@
 -- How long a format is: `Near p n` says that reading by p goes on by at most n bits, and so does every print. Assumes nothing.
-use Rattle.std.specs.Prelude.{◌≡◌, refl, Bool, true, false, List, ℕ, ◌+◌, ◌*◌, ◌≤◌, T, eqb, leb, ltb, length, ◌↔◌}
+use Rattle.std.specs.Prelude.{◌≡◌, refl, Bool, true, false, List, ℕ, ◌+◌, ◌*◌, ◌≤◌, T, eqb, leb, length, ◌↔◌}
 use Rattle.std.proofs.Common.{arith, length-append}
 use Rattle.bits.specs.Bit.{length-bits_n, length-bits_of}
 use Rattle.bits.specs.State.{State, is_reading_refusal, ahead_if, ahead, read_bits, read_bytes, refuse_if}

@@ -1,6 +1,6 @@
 -- How a function that reads part by part is shown to read its format: one rule for each way in which formats are put together.
 -- Assumes nothing.
-use Rattle.std.specs.Prelude.{◌≡◌, Bool, true, false, List, ℕ, ◌+◌, ◌*◌, length, T, eqb, leb, ltb, ◌↔◌}
+use Rattle.std.specs.Prelude.{◌≡◌, Bool, true, false, List, ℕ, ◌+◌, ◌*◌, length, T, eqb, leb, ◌↔◌}
 use Rattle.std.proofs.Common.{sym, ap₂, ◌∙◌, true≢false, eq-eqb, ne_eqb}
 use Rattle.std.proofs.Math.Path.{ap}
 use Rattle.std.proofs.lemmas.Bool.{false≢true}

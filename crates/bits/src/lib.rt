@@ -1,5 +1,7 @@
 // A reader of bits, high bit first: the state goes in and comes back by value. Once a read is refused, every later read
 // gives 0 and the same state.
+#![tactic(auto)]
+
 ghost use Rattle.std.specs.Prelude.{◌≡◌, ◌∷◌, ◌++◌, ◌+◌, ◌-◌, ◌*◌, ◌^◌, ◌≤◌, ◌<◌, true, ◌&&◌, ◌||◌, eqb, leb, get_or, length, replicate};
 ghost use Rattle.bits.specs.State.{clean, ahead, part, bytes_at, bytes_if, read_bytes, test};
 ghost use Rattle.bits.specs.Format.{field, flag, field_if, flag_if, minus1_if, sized, bytes_for, padded37};
@@ -32,66 +34,66 @@ pub fn pick(first: bool, a: u8, b: u8) -> u8
 }
 
 // A place counted in bits: the whole bytes passed, and the bits of the next one. So every place within a slice is a BitPos.
-#[derive(Drop)]
+#[derive(Clone, Copy)]
 pub struct BitPos(pub usize, pub usize);
 
 // A reader's state: the bit that comes next, and the refusal met so far (0: none). It has no padding, whose copying would cost
 // more than the reading.
-#[derive(Drop)]
+#[derive(Clone, Copy)]
 pub struct Bits {
     pub at: BitPos,
     pub refusal: usize,
 }
 
-#[derive(Drop)]
+#[derive(Clone, Copy)]
 pub struct FieldRead {
     pub value: u32,
     pub next: Bits,
 }
 
-#[derive(Drop)]
+#[derive(Clone, Copy)]
 pub struct SizeRead {
     pub value: usize,
     pub next: Bits,
 }
 
-#[derive(Drop)]
+#[derive(Clone, Copy)]
 pub struct ByteRead {
     pub value: u8,
     pub next: Bits,
 }
 
-#[derive(Drop)]
+#[derive(Clone, Copy)]
 pub struct FlagRead {
     pub value: bool,
     pub next: Bits,
 }
 
-#[derive(Drop)]
+#[derive(Clone, Copy)]
 pub struct Body4Read {
     pub value: [u8; 4],
     pub next: Bits,
 }
 
-#[derive(Drop)]
+#[derive(Clone, Copy)]
 pub struct Body8Read {
     pub value: [u8; 8],
     pub next: Bits,
 }
 
-#[derive(Drop)]
+#[derive(Clone, Copy)]
 pub struct Body20Read {
     pub value: [u8; 20],
     pub next: Bits,
 }
 
-#[derive(Drop)]
+#[derive(Clone, Copy)]
 pub struct Body24Read {
     pub value: [u8; 24],
     pub next: Bits,
 }
 
-#[derive(Drop)]
+#[derive(Clone, Copy)]
 pub struct Body37Read {
     pub value: [u8; 37],
     pub next: Bits,
@@ -147,8 +149,8 @@ fn window(data: &[u8], i: usize) -> u64
 
 // The number that n bits from a place write.
 fn field(data: &[u8], byte: usize, bit: usize, n: u32) -> u32
-    requires n_bound { n ≤ 32 }
-    requires n_bound_2 { byte * 8 + bit + n ≤ 8 * length «data».now }
+    requires width { n ≤ 32 }
+    requires room { byte * 8 + bit + n ≤ 8 * length «data».now }
     ensures { result ≡ part «data».now (byte * 8 + bit) n }
 {
     let w = window(data, byte + bit / 8);
@@ -235,7 +237,7 @@ fn body24(data: &[u8], byte: usize, bit: usize, here: bool) -> [u8; 24]
 // A byte, k bytes from a place, and zeros up to 37 bytes.
 fn body37(data: &[u8], byte: usize, bit: usize, here: bool, first: u8, k: usize) -> [u8; 37]
     requires k_bound { k ≤ 36 }
-    requires k_bound_2 { here ≡ true → byte * 8 + bit + 8 * k ≤ 8 * length «data».now }
+    requires room { here ≡ true → byte * 8 + bit + 8 * k ≤ 8 * length «data».now }
     ensures { result ≡ first ∷ (bytes_if here «data».now (byte * 8 + bit) k ++ replicate (36 - k) 0) }
 {
     let mut bytes = [0u8; 37];
@@ -268,8 +270,8 @@ impl Bits {
     // Whether n bits more are there, and the state past them.
     fn ahead(self, data: &[u8], n: usize) -> FlagRead
         requires { n ≤ 512 }
-        ensures n_value { ahead «data».now (state self) n ≡ (result.value, state result.next) }
-        ensures n_bound { result.value ≡ true → self.at.0 * 8 + self.at.1 + n ≤ 8 * length «data».now }
+        ensures ahead { ahead «data».now (state self) n ≡ (result.value, state result.next) }
+        ensures room { result.value ≡ true → self.at.0 * 8 + self.at.1 + n ≤ 8 * length «data».now }
     {
         if self.refusal != 0 {
             return FlagRead {
@@ -539,8 +541,8 @@ impl Bits {
     // A byte in front of k bytes as one field, and zeros up to 37.
     pub fn body37_after(self, data: &[u8], first: u8, k: usize) -> Body37Read
         requires { k ≤ 36 }
-        ensures value_value { result.value ≡ padded37 (first, (read_bytes «data».now (state self) k).0) }
-        ensures next_value { state result.next ≡ (read_bytes «data».now (state self) k).1 }
+        ensures value { result.value ≡ padded37 (first, (read_bytes «data».now (state self) k).0) }
+        ensures next { state result.next ≡ (read_bytes «data».now (state self) k).1 }
     {
         let a = self.ahead(data, 8 * k);
         let byte = self.at.0;

@@ -9,7 +9,6 @@
 use Rattle.std.specs.Prelude.{cond, List, ℕ, ◌+◌, ◌-◌, leb, ltb, eqb, length}
 use Rattle.octets.specs.BigEndian.{num}
 use Rattle.boxes.specs.Size.{size_at}
-use Rattle.boxes.specs.declared.BoxHeader.{BoxHeader}
 use Rattle.boxes.specs.declared.BoxSize.{BoxSize}
 use Rattle.boxes.specs.declared.BoxSize.TheVariants.{Whole, Refused}
 use Rattle.boxes.specs.declared.HeaderRead.{HeaderRead}

@@ -1,17 +1,15 @@
 -- A box that is written is read back, wherever it stands.
-use Rattle.std.specs.Prelude.{◌≡◌, ℕ, ◌+◌, ◌-◌, ◌≤◌, ◌<◌, take, drop, leb, ltb, eqb}
+use Rattle.std.specs.Prelude.{◌≡◌, ℕ, ◌+◌, ◌-◌, ◌≤◌, ◌<◌, take, drop}
 use Rattle.std.proofs.Math.Path.{refl}
-use Rattle.std.proofs.Common.{sym, ap, ◌∙◌, length-append, take_at, drop_at}
-use mathlib.Core.List.{List, [], ◌∷◌, ◌++◌, append_assoc}
+use Rattle.std.proofs.Common.{length-append, take_at, drop_at}
+use mathlib.Core.List.{List, ◌++◌, append_assoc}
 use native.Mathlib.Omega.{arith}
 use Rattle.std.proofs.Math.ListN.{length}
-use borrow.Author.Tests.{ne_eqb, le-ltb, le-leb}
+use borrow.Author.Tests.{ne_eqb, le-leb}
 use Rattle.octets.specs.BigEndian.{be, num}
 use Rattle.octets.specs.BigEndianLaws.{length-be, field_at}
 use Rattle.octets.specs.Part.{part_of}
-use Rattle.boxes.specs.declared.BoxHeader.{BoxHeader}
 use Rattle.boxes.specs.declared.BoxSize.TheVariants.{Whole}
-use Rattle.boxes.specs.declared.HeaderRead.{HeaderRead}
 use Rattle.boxes.specs.declared.UserType.TheVariants.{Absent}
 use Rattle.boxes.specs.Size.{bounded, size_at}
 use Rattle.boxes.specs.Header.{UUID, found, typed_at, header_at}

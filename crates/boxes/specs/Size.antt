@@ -6,7 +6,7 @@
 --     else if (size == 0) the box extends to the end
 --
 -- `size` and `largesize` count the whole box, header and all.
-use Rattle.std.specs.Prelude.{Bool, cond, ◌&&◌, List, ℕ, ◌+◌, ◌-◌, ◌≤◌, leb, ltb, eqb, length}
+use Rattle.std.specs.Prelude.{cond, ◌&&◌, List, ℕ, ◌+◌, ◌-◌, ◌≤◌, leb, ltb, eqb, length}
 use Rattle.octets.specs.BigEndian.{num}
 use Rattle.boxes.specs.declared.BoxSize.{BoxSize}
 use Rattle.boxes.specs.declared.BoxSize.TheVariants.{Whole, Refused}

@@ -1,4 +1,6 @@
 // Boxes of the ISO base media file format (ISO/IEC 14496-12, 4.2): headers read and written. Nothing here knows of pictures.
+#![tactic(auto)]
+
 pub mod find;
 
 ghost use Rattle.std.specs.Prelude.{◌≡◌, ◌+◌, ◌≤◌, ◌<◌, length};
@@ -16,14 +18,14 @@ pub type FourCc = u32;
 pub const UUID: FourCc = 0x75756964;
 
 // The extended type of a 'uuid' box: its sixteen bytes as two numbers, the first eight the high one.
-#[derive(Drop)]
+#[derive(Clone, Copy)]
 pub enum UserType {
     Absent,
     Present { high: u64, low: u64 },
 }
 
 // A box's header, and where its payload lies in the buffer.
-#[derive(Drop)]
+#[derive(Clone, Copy)]
 pub struct BoxHeader {
     pub box_type: FourCc,
     pub user_type: UserType,
@@ -33,14 +35,14 @@ pub struct BoxHeader {
 }
 
 // What reading a header gives: 0 and the header, or the number of the refusal and the blank header.
-#[derive(Drop)]
+#[derive(Clone, Copy)]
 pub struct HeaderRead {
     pub refusal: u8,
     pub header: BoxHeader,
 }
 
 // A box's whole length and how many of its bytes size, type and largesize take, or the number of a refusal.
-#[derive(Drop)]
+#[derive(Clone, Copy)]
 pub enum BoxSize {
     Whole { total: usize, head: usize },
     Refused(u8),

@@ -66,9 +66,9 @@ pub fn equivalent_file(
     brands: &[u8],
     out: &mut [u8],
 ) -> Written
-    ensures out_after { (result, out.new) ≡ expanded image source.now major minor brands.now out.old }
+    ensures answer { (result, out.new) ≡ expanded image source.now major minor brands.now out.old }
     ensures every_byte { result.refusal ≡ 0 → EveryByte (item_bytes image source.now) (take result.len out.new) }
-    ensures refusal_bound { (result.refusal ≤ 16) × (result.len < 4294967296) }
+    ensures bounds { (result.refusal ≤ 16) × (result.len < 4294967296) }
 {
     let refusal = refusal_of(image, source, brands);
     if refusal != 0 {

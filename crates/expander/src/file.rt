@@ -78,8 +78,8 @@ fn put_meta_body(
     lengths: DataLengths,
     base: usize,
 ) -> usize
-    requires image_in_bounds { (meta_body_len image ≤ length out.old) × (Sound image source.now × (base + data_len (data_lengths image) < 4294967296)) }
-    requires set_value { (set ≡ item_set image) × (lengths ≡ data_lengths image) }
+    requires fits { (meta_body_len image ≤ length out.old) × (Sound image source.now × (base + data_len (data_lengths image) < 4294967296)) }
+    requires of_image { (set ≡ item_set image) × (lengths ≡ data_lengths image) }
     ensures { Wrote out.old 0 (meta_body_len image) (meta_body image source.now base) out.new result }
 {
     let a = put_full_box_header(out, 0, 0, 0);
@@ -97,8 +97,8 @@ fn put_meta(
     lengths: DataLengths,
     base: usize,
 ) -> usize
-    requires image_in_bounds { (at + (8 + meta_body_len image) ≤ length out.old) × (Sound image source.now × (base + data_len (data_lengths image) < 4294967296)) }
-    requires image_bound { (meta_body_len image < 4294967288) × (lengths ≡ data_lengths image) }
+    requires fits { (at + (8 + meta_body_len image) ≤ length out.old) × (Sound image source.now × (base + data_len (data_lengths image) < 4294967296)) }
+    requires of_image { (meta_body_len image < 4294967288) × (lengths ≡ data_lengths image) }
     ensures { Wrote out.old at (8 + meta_body_len image) (meta image source.now base) out.new result }
 {
     let set = item_set(image);
@@ -126,8 +126,8 @@ pub fn put_file(
     lengths: DataLengths,
     base: usize,
 ) -> usize
-    requires image_in_bounds { (file_type_len file_type brands.now + (8 + meta_body_len image) + (8 + data_len (data_lengths image)) ≤ length out.old) × Fit image source.now }
-    requires brands_value { (allowed brands.now ≡ true) × ((base + data_len (data_lengths image) < 4294967296) × (lengths ≡ data_lengths image)) }
+    requires fits { (file_type_len file_type brands.now + (8 + meta_body_len image) + (8 + data_len (data_lengths image)) ≤ length out.old) × Fit image source.now }
+    requires allowed { (allowed brands.now ≡ true) × ((base + data_len (data_lengths image) < 4294967296) × (lengths ≡ data_lengths image)) }
     ensures { Wrote out.old 0 (file_type_len file_type brands.now + (8 + meta_body_len image) + (8 + data_len (data_lengths image)))
         (file_type_box file_type brands.now ++ meta image source.now base ++ mdat image source.now) out.new result }
 {

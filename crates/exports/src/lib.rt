@@ -1,4 +1,5 @@
 // The functions that C and Rust programs call, on numbers and byte slices. docs/ABI.md has their numbers and layouts.
+#![tactic(auto)]
 pub mod answer;
 
 ghost use Rattle.boxes.specs.Find.{find_box};

@@ -1,4 +1,6 @@
 // The 'ftyp' of the equivalent file (ISO/IEC 23008-12, O.2.1.2): `equivalent_file_type` of mini.rs and `FileType::to_box` of ftyp.rs.
+#![tactic(auto)]
+
 pub mod read;
 
 ghost use Rattle.std.specs.Prelude.{true, ◌≡◌, ◌+◌, ◌≤◌, length};
@@ -21,7 +23,7 @@ const VVIC: FourCc = 0x76766963;
 const FTYP: FourCc = 0x66747970;
 
 // The compatible brands stay in the list that is lent; the flags say which are added after it.
-#[derive(Drop)]
+#[derive(Clone, Copy)]
 pub struct FileType {
     pub major_brand: FourCc,
     pub minor_version: u32,
@@ -32,7 +34,7 @@ pub struct FileType {
 
 // What reading the body of an 'ftyp' gives: 0, the two numbers, and where in the body the compatible brands lie; or the number of the
 // refusal and zeros.
-#[derive(Drop)]
+#[derive(Clone, Copy)]
 pub struct FileTypeRead {
     pub refusal: u8,
     pub major_brand: FourCc,
@@ -142,8 +144,8 @@ fn put_body(out: &mut [u8], file_type: FileType, brands: &[u8]) -> usize
 
 // The 'ftyp' box of a file type, with the brands lent.
 pub fn put_ftyp(out: &mut [u8], at: usize, file_type: FileType, brands: &[u8]) -> usize
-    requires brands_in_bounds { at + file_type_len file_type brands.now ≤ length out.old }
-    requires brands_value { allowed brands.now ≡ true }
+    requires room { at + file_type_len file_type brands.now ≤ length out.old }
+    requires allowed { allowed brands.now ≡ true }
     ensures { Wrote out.old at (file_type_len file_type brands.now) (file_type_box file_type brands.now) out.new result }
 {
     let body = at + 8;

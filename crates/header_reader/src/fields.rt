@@ -10,43 +10,43 @@ use mini::{
 };
 
 // What each part reads to, with the state after it.
-#[derive(Drop)]
+#[derive(Clone, Copy)]
 pub struct FlagsRead {
     pub value: Flags,
     pub next: Bits,
 }
 
-#[derive(Drop)]
+#[derive(Clone, Copy)]
 pub struct DimensionsRead {
     pub value: Dimensions,
     pub next: Bits,
 }
 
-#[derive(Drop)]
+#[derive(Clone, Copy)]
 pub struct ChromaRead {
     pub value: MiniChroma,
     pub next: Bits,
 }
 
-#[derive(Drop)]
+#[derive(Clone, Copy)]
 pub struct FormatRead {
     pub value: SampleFormat,
     pub next: Bits,
 }
 
-#[derive(Drop)]
+#[derive(Clone, Copy)]
 pub struct CicpRead {
     pub value: ExplicitCicp,
     pub next: Bits,
 }
 
-#[derive(Drop)]
+#[derive(Clone, Copy)]
 pub struct TypesRead {
     pub value: ExplicitCodecTypes,
     pub next: Bits,
 }
 
-#[derive(Drop)]
+#[derive(Clone, Copy)]
 pub struct MainFormatRead {
     pub value: MainFormat,
     pub next: Bits,

@@ -7,13 +7,13 @@ use crate::fields::FormatRead;
 use bits::{Bits, FieldRead};
 use mini::{Dimensions, GainMapHeader, SampleFormat, TmapCicp};
 
-#[derive(Drop)]
+#[derive(Clone, Copy)]
 pub struct TmapCicpRead {
     pub value: TmapCicp,
     pub next: Bits,
 }
 
-#[derive(Drop)]
+#[derive(Clone, Copy)]
 pub struct GainMapRead {
     pub value: GainMapHeader,
     pub next: Bits,

@@ -6,7 +6,7 @@ ghost use Rattle.mini.specs.Syntax.{cclv, cclv_for, hdr_boxes};
 use bits::{Bits, Body37Read};
 use mini::MiniHdrBoxes;
 
-#[derive(Drop)]
+#[derive(Clone, Copy)]
 pub struct HdrBoxesRead {
     pub value: MiniHdrBoxes,
     pub next: Bits,

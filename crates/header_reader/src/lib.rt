@@ -1,4 +1,6 @@
 // The header of a MinimizedImageBox payload, read group by group: `MinimizedImage::parse` of mini.rs up to the chunks.
+#![tactic(auto)]
+
 ghost use Rattle.std.specs.Prelude.{true, ◌≡◌, ◌≤◌};
 ghost use Rattle.bits.specs.Run.{state, Run};
 ghost use Rattle.mini.specs.Chunks.{stored_sizes};
@@ -15,7 +17,7 @@ pub mod sizes;
 use bits::Bits;
 use mini::{Dimensions, GainMapHeader, Header, MiniHdrBoxes};
 
-#[derive(Drop)]
+#[derive(Clone, Copy)]
 pub struct HdrPartRead {
     pub gain_map: GainMapHeader,
     pub hdr_boxes: MiniHdrBoxes,
@@ -23,7 +25,7 @@ pub struct HdrPartRead {
     pub next: Bits,
 }
 
-#[derive(Drop)]
+#[derive(Clone, Copy)]
 pub struct HeaderRead {
     pub value: Header,
     pub next: Bits,

@@ -9,7 +9,7 @@ ghost use Rattle.mini.specs.Syntax.{chunk_sizes};
 use bits::Bits;
 use mini::{ChunkSizes, Flags, GainMapHeader};
 
-#[derive(Drop)]
+#[derive(Clone, Copy)]
 pub struct SizesRead {
     pub value: ChunkSizes,
     pub next: Bits,

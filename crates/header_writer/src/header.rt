@@ -120,7 +120,7 @@ pub fn put_sample_format(w: BitWriter, out: &mut [u8], float: bool, f: SampleFor
     }
 }
 
-#[derive(Drop)]
+#[derive(Clone, Copy)]
 pub struct CicpFields {
     pub primaries: u8,
     pub transfer: u8,
@@ -163,7 +163,7 @@ pub fn put_explicit_cicp(w: BitWriter, out: &mut [u8], on: bool, c: ExplicitCicp
     }
 }
 
-#[derive(Drop)]
+#[derive(Clone, Copy)]
 pub struct CodecTypeFields {
     pub infe_type: u32,
     pub codec_config_type: u32,
@@ -215,7 +215,7 @@ pub fn put_main_format(w: BitWriter, out: &mut [u8], f: Flags, m: MainFormat) ->
     put_codec_types(w4, out, f.explicit_codec_types, types)
 }
 
-#[derive(Drop)]
+#[derive(Clone, Copy)]
 pub struct TmapCicpFields {
     pub primaries: u8,
     pub transfer: u8,

@@ -1,5 +1,7 @@
 // The boxes of 'meta' that list the items (ISO/IEC 23008-12, O.4): `equivalent_file` of mini.rs. Each body is written into its own stretch of
 // the output, and its header then.
+#![tactic(auto)]
+
 pub mod group;
 pub mod info;
 pub mod locations;
@@ -21,7 +23,7 @@ const PICT: FourCc = 0x70696374;
 const PITM: FourCc = 0x7069746D;
 
 // Which items the file has. The main picture is always there; `tone_map` is a gain map that is present, `gain_map` one whose data is not empty.
-#[derive(Drop)]
+#[derive(Clone, Copy)]
 pub struct ItemSet {
     pub item_type: FourCc,
     pub alpha: bool,
@@ -34,7 +36,7 @@ pub struct ItemSet {
 }
 
 // How many bytes each item has, in the order in which they lie.
-#[derive(Drop)]
+#[derive(Clone, Copy)]
 pub struct DataLengths {
     pub alpha: usize,
     pub tone_map: usize,

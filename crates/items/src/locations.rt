@@ -24,8 +24,8 @@ fn put_entry(out: &mut [u8], at: usize, id: u16, off: u32, len: u32) -> usize
 
 // An item without bytes has no entry.
 fn put_located(out: &mut [u8], at: usize, id: u16, off: usize, len: usize) -> usize
-    requires len_in_bounds { at + for_bytes len 16 ≤ length out.old }
-    requires len_bound { off + len < 4294967296 }
+    requires room { at + for_bytes len 16 ≤ length out.old }
+    requires offsets { off + len < 4294967296 }
     ensures { Wrote out.old at (for_bytes len 16) (entries (located id off len)) out.new result }
 {
     if len == 0 {
@@ -35,8 +35,8 @@ fn put_located(out: &mut [u8], at: usize, id: u16, off: usize, len: usize) -> us
 }
 
 fn put_entries(out: &mut [u8], at: usize, base: usize, l: DataLengths) -> usize
-    requires l_in_bounds { at + entries_len l ≤ length out.old }
-    requires l_bound { base + data_len l < 4294967296 }
+    requires room { at + entries_len l ≤ length out.old }
+    requires offsets { base + data_len l < 4294967296 }
     ensures { Wrote out.old at (entries_len l) (entries (locations base l)) out.new result }
 {
     let tone_map = base + l.alpha;
@@ -74,8 +74,8 @@ fn location_count(l: DataLengths) -> u16
 }
 
 fn put_iloc_body(out: &mut [u8], base: usize, l: DataLengths) -> usize
-    requires l_in_bounds { 8 + entries_len l ≤ length out.old }
-    requires l_bound { base + data_len l < 4294967296 }
+    requires room { 8 + entries_len l ≤ length out.old }
+    requires offsets { base + data_len l < 4294967296 }
     ensures { Wrote out.old 0 (8 + entries_len l) (iloc_body (locations base l)) out.new result }
 {
     let count = location_count(l);
@@ -87,8 +87,8 @@ fn put_iloc_body(out: &mut [u8], base: usize, l: DataLengths) -> usize
 
 // The items' bytes lie from `base` on, in the order of the lengths.
 pub fn put_iloc(out: &mut [u8], at: usize, base: usize, l: DataLengths) -> usize
-    requires l_in_bounds { at + iloc_len l ≤ length out.old }
-    requires l_bound { base + data_len l < 4294967296 }
+    requires room { at + iloc_len l ≤ length out.old }
+    requires offsets { base + data_len l < 4294967296 }
     ensures { Wrote out.old at (iloc_len l) (iloc (locations base l)) out.new result }
 {
     let body = at + 8;

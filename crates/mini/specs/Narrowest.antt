@@ -8,7 +8,7 @@ use Rattle.std.proofs.lemmas.Bool.{false≢true}
 use Rattle.std.proofs.Math.Dec.{ltb}
 use Rattle.bits.specs.Format.{◌>>=◌, flag, field_if, minus1_if, flag_if, minus1, sized, view}
 use Rattle.bits.specs.Bit.{to_n, length-bits_n}
-use Rattle.mini.specs.Syntax.{header, flags, dimensions, gain_map_header, gain_map_dimension, chunk_sizes}
+use Rattle.mini.specs.Syntax.{header, dimensions, gain_map_header, gain_map_dimension, chunk_sizes}
 use Rattle.mini.specs.RecordHeader.{parts, whole}
 use Rattle.mini.specs.Chunks.{is_present}
 use Rattle.mini.specs.Same.{chunk_len}

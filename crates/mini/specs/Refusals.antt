@@ -1,7 +1,7 @@
 -- Reading refuses with 5 to 9 and no other number: document 01, 'What goes back when it cannot be done'.
-use Rattle.std.specs.Prelude.{◌≡◌, refl, Bool, true, false, ◌&&◌, ◌||◌, List, ℕ, ◌≤◌, ◌/◌, T, eqb, leb, length}
+use Rattle.std.specs.Prelude.{◌≡◌, Bool, true, false, ◌||◌, List, ℕ, ◌≤◌, ◌/◌, T, eqb, leb, length}
 use Rattle.std.proofs.Common.{arith, eqb→eq, leb→le}
-use Rattle.bits.specs.State.{State, is_reading_refusal, is_reading_state, clean, test}
+use Rattle.bits.specs.State.{is_reading_refusal, is_reading_state, clean, test}
 use Rattle.bits.specs.Format.{and_split, test_told}
 use Rattle.mini.specs.Chunks.{stored_sizes, end_within}
 use Rattle.mini.specs.Image.{image_of}

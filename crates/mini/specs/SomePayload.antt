@@ -1,7 +1,7 @@
 -- Refusal 11, as document 01 has it ('no payload reads to this record'): a well-placed record whose source is bytes can be written exactly if
 -- some payload of bytes reads to it; and so exactly if it has none of the faults that the document lists. Assumes nothing.
 use Rattle.std.specs.Prelude.{◌↔◌, List, ℕ, T}
-use Rattle.std.proofs.Math.Logic.{Iff·symm, Iff·trans}
+use mathlib.Core.Logic.Iff
 use Rattle.std.proofs.Math.Pow.{are_bytes}
 use Rattle.mini.specs.Same.{well_placed}
 use Rattle.mini.specs.Write.{payload_of, writable}
@@ -22,4 +22,4 @@ some_payload i s b w = (
 -- the document's list
 pub listed-payload : (i : MinimizedImage) (s : List ℕ) → T (are_bytes s) → T (well_placed i s)
     → Lawful i ↔ ((q : List ℕ) × (T (are_bytes q) × ReadsTo q i s))
-listed-payload i s b w = Iff·trans (Iff·symm (lawful_iff i)) (some_payload i s b w)
+listed-payload i s b w = Iff.trans (Iff.symm (lawful_iff i)) (some_payload i s b w)

@@ -1,7 +1,6 @@
 -- What is read is well placed: every chunk of an accepted reading lies within the payload. Assumes nothing.
 use Rattle.std.specs.Prelude.{◌≡◌, refl, Bool, true, false, not, ◌&&◌, ◌||◌, List, ℕ, ◌+◌, ◌≤◌, T, ltb, length}
 use Rattle.std.proofs.Common.{sym, subst, arith, le-leb}
-use Rattle.mini.specs.Syntax.{flags}
 use Rattle.mini.specs.Chunks.{stored_sizes, chunk_if, span_if, stored_places}
 use Rattle.mini.specs.Image.{image_of}
 use Rattle.mini.specs.Read.{read_mini}

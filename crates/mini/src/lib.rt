@@ -1,4 +1,6 @@
 // The record of a MinimizedImageBox, the parts of its header, and what a reading gives (ISO/IEC 23008-12 Amd 2, Annex O).
+#![tactic(auto)]
+
 ghost use Rattle.std.specs.Prelude.{◌≡◌, ◌≤◌};
 ghost use Rattle.mini.specs.Cclv.{cclv_more};
 ghost use Rattle.mini.specs.Chunks.{is_present};
@@ -8,14 +10,14 @@ ghost use Rattle.mini.specs.Same.{chunk_len};
 ghost use Rattle.mini.specs.ShownSize.{shown_size};
 ghost use Rattle.mini.specs.Views.{is_float, has_cicp, has_codec_types, has_tmap_cicp};
 
-#[derive(Drop)]
+#[derive(Clone, Copy)]
 pub enum SampleFormat {
     Integer { bits: u8 },
     Float { bits: u8 },
 }
 
 // Absent: inferred from the brand in the file type's minor version.
-#[derive(Drop)]
+#[derive(Clone, Copy)]
 pub enum ExplicitCodecTypes {
     Absent,
     Present {
@@ -25,7 +27,7 @@ pub enum ExplicitCodecTypes {
 }
 
 // Absent: Table O.3.
-#[derive(Drop)]
+#[derive(Clone, Copy)]
 pub enum ExplicitCicp {
     Absent,
     Present {
@@ -36,7 +38,7 @@ pub enum ExplicitCicp {
 }
 
 // Absent: sRGB, Table O.5.
-#[derive(Drop)]
+#[derive(Clone, Copy)]
 pub enum TmapCicp {
     Absent,
     Present {
@@ -47,7 +49,7 @@ pub enum TmapCicp {
     },
 }
 
-#[derive(Drop)]
+#[derive(Clone, Copy)]
 pub struct MiniChroma {
     pub subsampling: u8,
     pub horizontally_centered: bool,
@@ -55,7 +57,7 @@ pub struct MiniChroma {
 }
 
 // The bodies, each with zeros where it is absent, and after a cclv's length.
-#[derive(Drop)]
+#[derive(Clone, Copy)]
 pub struct MiniHdrBoxes {
     pub has_clli: bool,
     pub has_mdcv: bool,
@@ -72,20 +74,20 @@ pub struct MiniHdrBoxes {
 }
 
 // A part of the payload that may be absent.
-#[derive(Drop)]
+#[derive(Clone, Copy)]
 pub enum Chunk {
     Absent,
     Present { at: usize, len: usize },
 }
 
 // A part of the payload that is always there, perhaps empty.
-#[derive(Drop)]
+#[derive(Clone, Copy)]
 pub struct Span {
     pub at: usize,
     pub len: usize,
 }
 
-#[derive(Drop)]
+#[derive(Clone, Copy)]
 pub struct MiniGainMap {
     pub width: u32,
     pub height: u32,
@@ -102,7 +104,7 @@ pub struct MiniGainMap {
 }
 
 // The gain map is blank where has_gain_map is false.
-#[derive(Drop)]
+#[derive(Clone, Copy)]
 pub struct MinimizedImage {
     pub explicit_codec_types: ExplicitCodecTypes,
     pub format: SampleFormat,
@@ -129,14 +131,14 @@ pub struct MinimizedImage {
 }
 
 // A refusal's number, 0 where there is none, and the record, blank where there is one.
-#[derive(Drop)]
+#[derive(Clone, Copy)]
 pub struct Reading {
     pub refusal: u8,
     pub image: MinimizedImage,
 }
 
 // The header's first sixteen bits.
-#[derive(Drop)]
+#[derive(Clone, Copy)]
 pub struct Flags {
     pub explicit_codec_types: bool,
     pub float: bool,
@@ -151,7 +153,7 @@ pub struct Flags {
     pub orientation: u8,
 }
 
-#[derive(Drop)]
+#[derive(Clone, Copy)]
 pub struct Dimensions {
     pub large: bool,
     pub width: u32,
@@ -159,7 +161,7 @@ pub struct Dimensions {
 }
 
 // What the header says of the main picture's samples and coding.
-#[derive(Drop)]
+#[derive(Clone, Copy)]
 pub struct MainFormat {
     pub chroma: MiniChroma,
     pub format: SampleFormat,
@@ -169,7 +171,7 @@ pub struct MainFormat {
 }
 
 // The gain map's part of the header, before the HDR boxes.
-#[derive(Drop)]
+#[derive(Clone, Copy)]
 pub struct GainMapHeader {
     pub present: bool,
     pub same_dimensions: bool,
@@ -187,7 +189,7 @@ pub struct GainMapHeader {
 }
 
 // The sizes of the chunks in bytes, 0 for what is absent, with the flags for the long forms.
-#[derive(Drop)]
+#[derive(Clone, Copy)]
 pub struct ChunkSizes {
     pub large_metadata: bool,
     pub large_codec_config: bool,
@@ -207,7 +209,7 @@ pub struct ChunkSizes {
 }
 
 // Where each chunk lies, or would lie.
-#[derive(Drop)]
+#[derive(Clone, Copy)]
 pub struct ChunkPlaces {
     pub main_codec_config: usize,
     pub alpha_codec_config: usize,
@@ -223,7 +225,7 @@ pub struct ChunkPlaces {
 }
 
 // All that stands before the chunks.
-#[derive(Drop)]
+#[derive(Clone, Copy)]
 pub struct Header {
     pub flags: Flags,
     pub dimensions: Dimensions,
@@ -235,7 +237,7 @@ pub struct Header {
 }
 
 // Colour primaries, transfer characteristics and matrix coefficients.
-#[derive(Drop)]
+#[derive(Clone, Copy)]
 pub struct Cicp {
     pub primaries: u8,
     pub transfer: u8,
@@ -243,7 +245,7 @@ pub struct Cicp {
 }
 
 // The number of an item in the equivalent file (mini.rs, item_id); document 01: the numbers 1 to 7 belong to the item kind.
-#[derive(Drop)]
+#[derive(Clone, Copy)]
 pub struct ItemKind(pub u16);
 
 impl ItemKind {
@@ -263,14 +265,14 @@ impl ItemKind {
 }
 
 // Width and height.
-#[derive(Drop)]
+#[derive(Clone, Copy)]
 pub struct Size {
     pub width: u32,
     pub height: u32,
 }
 
 // What the desk check asks of a record, each by itself (document 01); the size is the one as shown.
-#[derive(Drop)]
+#[derive(Clone, Copy)]
 pub struct DisplayConditions {
     pub integer_samples: bool,
     pub no_gain_map: bool,

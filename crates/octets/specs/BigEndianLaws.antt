@@ -1,6 +1,6 @@
 -- Laws of big-endian numbers, each over the width.
 use Rattle.std.specs.Prelude.{◌≡◌, refl, List, [], ◌∷◌, ◌++◌, ℕ, zero, suc, ◌+◌, ◌*◌, ◌/◌, ◌%◌, ◌^◌, ◌<◌, ◌≤◌, length, get_or}
-use Rattle.std.proofs.Common.{sym, ap, ap₂, ◌∙◌, append_assoc, append-nil, arith, add-suc, add-zero, add_assoc, zero-add, mul_assoc, add-mul, mul-one, div-one, pow-suc, mod-eq_of_lt, mod-lt, lit<, lit≤, length-append, get_or-append-add}
+use Rattle.std.proofs.Common.{sym, ◌∙◌, append_assoc, append-nil, arith, add-suc, add-zero, add_assoc, mul_assoc, add-mul, mul-one, div-one, pow-suc, mod-eq_of_lt, mod-lt, lit<, lit≤, length-append, get_or-append-add}
 use Rattle.std.proofs.Math.Nat.{mod-one, pow-zero, pow-succ', one-le-pow, div-div-eq-div-mul}
 use Rattle.std.proofs.Math.Arith.{mod-mul, digits_div, digits_mod}
 use Rattle.std.proofs.Math.ListN.{get_or-append}

@@ -1,4 +1,6 @@
 // Bytes read from a slice and written into an output that the caller lends. Numbers are big-endian.
+#![tactic(auto)]
+
 ghost use Rattle.std.specs.Prelude.{◌≡◌, [], ◌∷◌, ◌+◌, ◌≤◌, ◌<◌, length, replicate};
 ghost use Rattle.octets.specs.BigEndian.{be, num};
 ghost use Rattle.octets.specs.Overwrite.{Wrote};

@@ -16,7 +16,7 @@ use header_reader::sizes::{read_sizes, read_trailing_bits};
 use octets::put_u64;
 
 // The state after each part.
-#[derive(Drop)]
+#[derive(Clone, Copy)]
 pub struct HeaderEnds {
     pub flags: Bits,
     pub dimensions: Bits,

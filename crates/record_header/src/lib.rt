@@ -1,4 +1,6 @@
 // The header of a record, in its narrowest forms: what `MinimizedImage::to_box` of mini.rs decides before it writes.
+#![tactic(auto)]
+
 ghost use Rattle.std.specs.Prelude.{◌≡◌};
 ghost use Rattle.mini.specs.Write.{header_of, not_empty};
 

@@ -1,4 +1,5 @@
 // Replays recorded answers of the supplied Rust: each line of a table is one call, and what it answered.
+#![tactic(auto)]
 mod table;
 
 ghost use Rattle.std.specs.Prelude.{◌≤◌, length};
@@ -63,7 +64,7 @@ fn reading_agrees(text: &[u8], at: usize) -> bool
     holds(&out, &want[0..m])
 }
 
-#[derive(Drop)]
+#[derive(Clone, Copy)]
 pub enum Kind {
     BoxHeaders,
     Readings,
@@ -78,7 +79,7 @@ fn line_agrees(kind: Kind, text: &[u8], at: usize) -> bool
     }
 }
 
-#[derive(Drop)]
+#[derive(Clone, Copy)]
 pub struct Tally {
     pub lines: u64,
     pub differ: u64,

@@ -2,14 +2,14 @@
 ghost use Rattle.std.specs.Prelude.{◌<◌, ◌≤◌, length};
 
 // Bytes that a field gave: how many, and the place after it.
-#[derive(Drop)]
+#[derive(Clone, Copy)]
 pub struct HexField {
     pub len: usize,
     pub next: usize,
 }
 
 // The number that a field gave, and the place after it.
-#[derive(Drop)]
+#[derive(Clone, Copy)]
 pub struct DecimalField {
     pub value: u64,
     pub next: usize,

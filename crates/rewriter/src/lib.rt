@@ -1,4 +1,5 @@
 // Rewriting: a payload read, and its record written as a box in its shortest form.
+#![tactic(auto)]
 ghost use Rattle.std.specs.Prelude.{◌≡◌, ◌≤◌, ◌<◌, take, drop};
 ghost use Rattle.rewriter.specs.Rewritten.{rewritten, WrittenBack};
 
@@ -7,9 +8,9 @@ use writer::{Written, to_box};
 
 // The number of the reader's refusal; else the writer's answer.
 pub fn rewrite(payload: &[u8], out: &mut [u8]) -> Written
-    ensures out_after { (result, out.new) ≡ rewritten payload.now out.old }
+    ensures answer { (result, out.new) ≡ rewritten payload.now out.old }
     ensures written_back { result.refusal ≡ 0 → WrittenBack payload.now (drop 8 (take result.len out.new)) }
-    ensures refusal_bound { (result.refusal ≤ 16) × (result.len < 4294967296) }
+    ensures bounds { (result.refusal ≤ 16) × (result.len < 4294967296) }
 {
     let reading = parse(payload);
     let refusal = reading.refusal;

@@ -7,7 +7,7 @@ use reader::parse;
 use record_header::header_of;
 use writer::is_writable;
 
-#[derive(Drop)]
+#[derive(Clone, Copy)]
 enum Field {
     Width,
     Height,
@@ -34,7 +34,7 @@ fn full() -> MinimizedImage {
 }
 
 // The numbers whose limits are run.
-#[derive(Drop)]
+#[derive(Clone, Copy)]
 struct Numbers {
     width: u32,
     height: u32,

@@ -1,4 +1,5 @@
 // Runs the corner cases that document 01 lists and does not mark P, and prints what comes back.
+#![tactic(auto)]
 mod boxes_rs;
 mod limits;
 mod print;

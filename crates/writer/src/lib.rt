@@ -1,4 +1,5 @@
 // Writing a record as a 'mini' box: `MinimizedImage::to_box` of mini.rs.
+#![tactic(auto)]
 ghost use Rattle.std.specs.Prelude.{◌≡◌, T};
 ghost use Rattle.mini.specs.Write.{header_of, writable};
 ghost use Rattle.writer.specs.ToBox.{HeaderHeld, HeaderOf, written, answer};
@@ -16,14 +17,14 @@ use record_header::{header_of, not_empty};
 const MINI: FourCc = 0x6D696E69;
 
 // What writing answers: 0 or the refusal's number, and the length written; the length needed with 16, else 0.
-#[derive(Drop)]
+#[derive(Clone, Copy)]
 pub struct Written {
     pub refusal: usize,
     pub len: usize,
 }
 
 // A record's header: its bytes, how many they are, and whether a payload holds the record at all (refusal 11).
-#[derive(Drop)]
+#[derive(Clone, Copy)]
 pub struct HeaderBytes {
     pub bytes: [u8; 256],
     pub len: usize,

@@ -6,7 +6,7 @@ use Rattle.bits.proofs.body37.Goals as goal
 pub fill-requires : goal.fill-requires
 fill-requires c =
     let a = c.args in
-    omega (arith, zeros-length a.k (a.k + 1 - 1) 36 (omega arith) c.requires.k_bound, c.requires.k_bound_2 c.if-here.true)
+    omega (arith, zeros-length a.k (a.k + 1 - 1) 36 (omega arith) c.requires.k_bound, c.requires.room c.if-here.true)
 
 pub returns-then-here : goal.returns-then-here
 returns-then-here c =

@@ -1,5 +1,5 @@
 -- `bits::fill` meets its contract. Assumes nothing.
-use Rattle.std.proofs.Common.{arith, length-set, refl, rules, sym, ◌-◌, ◌∙◌}
+use Rattle.std.proofs.Common.{arith, length-set, refl, rules, sym, ◌∙◌}
 use Rattle.bits.specs.Window.{bytes_none, bytes_more, bytes-all}
 use Rattle.bits.proofs.fill.Goals as goal
 

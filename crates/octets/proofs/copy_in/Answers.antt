@@ -1,5 +1,5 @@
 -- `octets::copy_in` meets its contract: after j turns the first j bytes of `src` are written.
-use Rattle.std.proofs.Common.{List, add-one, arith, get_or, length, length-set, length-take-le, refl, rules, set, sym, take, take-suc, ℕ, ◌+◌, ◌-◌, ◌<◌, ◌∙◌, ◌≡◌, ◌≤◌}
+use Rattle.std.proofs.Common.{List, add-one, arith, get_or, length, length-set, length-take-le, refl, rules, set, sym, take, take-suc, ℕ, ◌+◌, ◌<◌, ◌∙◌, ◌≡◌, ◌≤◌}
 use lib.Seq.{take-length}
 use Rattle.octets.specs.OverwriteLaws.{overwrite-append}
 use Rattle.octets.specs.Overwrite.{overwrite}

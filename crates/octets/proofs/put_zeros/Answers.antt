@@ -1,5 +1,5 @@
 -- `octets::put_zeros` meets its contract: after i turns i zeros are written.
-use Rattle.std.proofs.Common.{List, arith, length-set, refl, replicate, rules, set, sym, ℕ, ◌+◌, ◌-◌, ◌∙◌, ◌≡◌}
+use Rattle.std.proofs.Common.{List, arith, length-set, refl, replicate, rules, set, sym, ℕ, ◌+◌, ◌∙◌, ◌≡◌}
 use lib.ListN.{length-replicate, replicate-append-replicate}
 use Rattle.octets.specs.OverwriteLaws.{overwrite-append}
 use Rattle.octets.specs.Overwrite.{overwrite}

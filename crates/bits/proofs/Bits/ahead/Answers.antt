@@ -8,8 +8,8 @@ pub returns-then-self-ne0 : goal.returns-then-self-ne0
 unfolding state
 returns-then-self-ne0 c =
     record {
-      n_value = ahead_stuck _ _ _ c.if-self-ne0.true;
-      n_bound = λ e. absurd (false≢true e);
+      ahead = ahead_stuck _ _ _ c.if-self-ne0.true;
+      room = λ e. absurd (false≢true e);
     }
 
 pub overflow_add-result : goal.overflow_add-result
@@ -29,14 +29,14 @@ unfolding state
 returns-then-room c =
     let e = sym c.room.ensures ∙ c.if-room.true in
     record {
-      n_value = ahead_there _ _ _ _ c.if-self-ne0.false e (omega arith);
-      n_bound = λ t. leb-true _ _ e;
+      ahead = ahead_there _ _ _ _ c.if-self-ne0.false e (omega arith);
+      room = λ t. leb-true _ _ e;
     }
 
 pub returns-else-room : goal.returns-else-room
 unfolding state
 returns-else-room c =
     record {
-      n_value = ahead_short _ _ _ c.if-self-ne0.false (sym c.room.ensures ∙ c.if-room.false);
-      n_bound = λ e. absurd (false≢true e);
+      ahead = ahead_short _ _ _ c.if-self-ne0.false (sym c.room.ensures ∙ c.if-room.false);
+      room = λ e. absurd (false≢true e);
     }

@@ -5,7 +5,7 @@ use Rattle.bits.proofs.Bits.body4_if.Goals as goal
 
 pub returns-then-on : goal.returns-then-on
 unfolding state
-returns-then-on c = run_on _ _ _ c.if-on.true (run_bytes 4 _ c.ahead-a.ensures.n_value c.body4-value.ensures)
+returns-then-on c = run_on _ _ _ c.if-on.true (run_bytes 4 _ c.ahead-a.ensures.ahead c.body4-value.ensures)
 
 pub returns-else-on : goal.returns-else-on
 returns-else-on c = run_off _ _ _ c.if-on.false (record { eq = refl })

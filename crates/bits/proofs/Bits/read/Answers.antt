@@ -7,21 +7,21 @@ use Rattle.bits.proofs.Bits.read.Goals as goal
 pub field-requires : goal.field-requires
 field-requires c =
     record {
-      n_bound = search rules;
-      n_bound_2 = c.ahead-a.ensures.n_bound c.if-a.true;
+      width = search rules;
+      room = c.ahead-a.ensures.room c.if-a.true;
     }
 
 pub returns-then-a : goal.returns-then-a
 unfolding state
 returns-then-a c =
     record {
-      run = run_here _ c.ahead-a.ensures.n_value c.if-a.true c.field.ensures;
+      run = run_here _ c.ahead-a.ensures.ahead c.if-a.true c.field.ensures;
       value_bound = rw c.field.ensures (part-lt _ _ _);
     }
 
 pub returns-else-a : goal.returns-else-a
 returns-else-a c =
     record {
-      run = run_none _ c.ahead-a.ensures.n_value c.if-a.false;
+      run = run_none _ c.ahead-a.ensures.ahead c.if-a.false;
       value_bound = pow_pos _;
     }

@@ -1,0 +1,14 @@
+-- `header_reader::fields::read_main_format` meets its contract. Assumes nothing.
+use Rattle.bits.specs.Run.{run_view, run_seq}
+use Rattle.mini.specs.Syntax.{main_format}
+use Rattle.header_reader.proofs.fields.read_main_format.Goals as goal
+
+pub returns : goal.returns
+unfolding main_format
+returns c =
+    run_view _ _ _ _ _ _
+    (run_seq _ _ c.read_chroma-c.ensures
+    (run_seq _ _ c.read_format-o.ensures
+    (run_seq _ _ c.flag_if-p.ensures
+    (run_seq _ _ c.read_cicp-i.ensures
+    c.read_types-t.ensures))))

@@ -1,0 +1,17 @@
+-- `header_reader::fields::read_types` meets its contract. Assumes nothing.
+use Rattle.std.proofs.Common.{refl}
+use Rattle.bits.specs.Run.{run_on, run_off, run_view, run_seq}
+use Rattle.mini.specs.Syntax.{explicit_codec_types}
+use Rattle.header_reader.proofs.fields.read_types.Goals as goal
+
+pub returns-then-on : goal.returns-then-on
+unfolding explicit_codec_types
+returns-then-on c =
+    run_on _ _ _ c.if-on.true
+    (run_view _ _ _ _ _ _
+    (run_seq _ _ c.read-i.ensures.run
+    c.read-c.ensures.run))
+
+pub returns-else-on : goal.returns-else-on
+unfolding explicit_codec_types
+returns-else-on c = run_off _ _ _ c.if-on.false (record { eq = refl })

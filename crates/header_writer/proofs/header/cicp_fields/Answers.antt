@@ -1,0 +1,10 @@
+-- `header_writer::header::cicp_fields` meets its contract. Assumes nothing.
+use Rattle.std.proofs.Common.{ap, sym}
+use Rattle.mini.specs.Views.{cicp_from}
+use Rattle.header_writer.proofs.header.cicp_fields.Goals as goal
+
+pub returns-in-Absent : goal.returns-in-Absent
+returns-in-Absent c = ap cicp_from (sym c.in-Absent.is)
+
+pub returns-in-Present : goal.returns-in-Present
+returns-in-Present c = ap cicp_from (sym c.in-Present.is)

@@ -1,0 +1,9 @@
+-- `header_writer::header::put_chroma` meets its contract. Assumes nothing.
+use Rattle.bit_writer.specs.WriterLaws.{puts_view, puts_seq}
+use Rattle.mini.specs.Syntax.{chroma}
+use Rattle.header_writer.proofs.header.put_chroma.Goals as goal
+
+pub returns : goal.returns
+unfolding chroma
+returns c =
+    puts_view _ _ _ _ _ _ (puts_seq _ _ (rw c.either-any.ensures at c.flag_if-w1.ensures) c.flag_if-w2.ensures) c.test.ensures

@@ -1,0 +1,14 @@
+-- `header_writer::header::put_main_format` meets its contract. Assumes nothing.
+use Rattle.bit_writer.specs.WriterLaws.{puts_renamed, puts_seq}
+use Rattle.mini.specs.Syntax.{main_format}
+use Rattle.header_writer.proofs.header.put_main_format.Goals as goal
+
+pub returns : goal.returns
+unfolding main_format
+returns c =
+    puts_renamed _ _ _ _ _
+    (puts_seq _ _ c.put_chroma-w1.ensures
+    (puts_seq _ _ c.put_sample_format-w2.ensures
+    (puts_seq _ _ c.flag_if-w3.ensures
+    (puts_seq _ _ c.put_explicit_cicp-w4.ensures
+    (c.put_codec_types.ensures)))))
