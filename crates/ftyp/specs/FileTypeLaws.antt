@@ -4,8 +4,6 @@ use Rattle.std.proofs.Common.{sym, ap, ◌∙◌, append-nil, append_assoc, arit
 use Rattle.std.proofs.lemmas.Bool.{eqb-false}
 use Rattle.octets.specs.BigEndian.{be, num}
 use Rattle.octets.specs.BigEndianLaws.{length-be, num-append, num_shift, num-be}
-use Rattle.octets.specs.Overwrite.{Wrote}
-use Rattle.octets.specs.OverwriteLaws.{recast}
 use Rattle.boxes.specs.Boxed.{length-boxed}
 use Rattle.ftyp.specs.declared.FileType.{FileType}
 use Rattle.ftyp.specs.FileType.{MIF1, MIF3, TMAP, allowed, among, has_brand, renamed, brands_of, ftyp_body, ftyp, lacks, file_type, added, added_len, file_type_body, file_type_box, file_type_len, ftyp_len}

@@ -3,7 +3,7 @@ use Rattle.std.specs.Prelude.{◌≡◌, Bool, false, List, ℕ, eqb}
 use Rattle.std.proofs.Common.{sym, ap, ap₂, ◌∙◌}
 use Rattle.bits.specs.State.{State, read_bytes, test}
 use Rattle.bits.specs.Format.{Format, field, padded37, view, ◌>>=◌}
-use Rattle.bits.specs.Run.{Run, run_seq, run_exactly}
+use Rattle.bits.specs.Run.{Run, run_exactly}
 use Rattle.mini.specs.Blank.{blank_hdr_boxes}
 use Rattle.mini.specs.Read.{bits_to_boundary, past_trailing_bits}
 use Rattle.mini.specs.Syntax.{chroma, tmap_cicp, gain_map_dimension, gain_map_format, gain_map_header, cclv, cclv_for, hdr_boxes, trailing_bits}

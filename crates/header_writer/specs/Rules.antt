@@ -1,6 +1,6 @@
 -- Rules for the parts of the header's writing that are no plain sequence. Assumes nothing.
-use Rattle.std.specs.Prelude.{◌≡◌, refl, Bool, true, false, not, ◌&&◌, ◌||◌, List, [], ◌∷◌, ◌++◌, ℕ, zero, suc, ◌+◌, ◌-◌, ◌^◌, ◌≤◌, ◌<◌, eqb, ltb, leb, length, take, drop, get_or, replicate}
-use Rattle.std.proofs.Common.{sym, ap, ap₂, ◌∙◌, subst, arith, add-one, length-take, length-drop, take-append-drop, eq-eqb, ne_eqb, lt-ltb}
+use Rattle.std.specs.Prelude.{◌≡◌, refl, Bool, true, false, not, ◌&&◌, ◌||◌, List, [], ◌∷◌, ◌++◌, ℕ, zero, suc, ◌+◌, ◌-◌, ◌^◌, ◌≤◌, ◌<◌, eqb, ltb, length, take, drop, get_or, replicate}
+use Rattle.std.proofs.Common.{sym, ap, ap₂, ◌∙◌, arith, add-one, length-take, length-drop, take-append-drop, eq-eqb, ne_eqb, lt-ltb}
 use Rattle.std.proofs.Math.Pow.{are_bytes}
 use Rattle.bits.specs.Bit.{bits_n, bits_of, bits_onto_is}
 use Rattle.bits.specs.Format.{sized, is_list, view, ◌>>=◌}
@@ -9,7 +9,7 @@ use Rattle.bit_writer.specs.WriterLaws.{fed_as, fed_tested}
 use Rattle.bit_writer.specs.declared.BitWriter.{BitWriter}
 use Rattle.mini.specs.Cclv.{cclv_more}
 use Rattle.mini.specs.Syntax.{cclv}
-use Rattle.mini.specs.Views.{bits_in, is_float, is_format, float_to, float_code}
+use Rattle.mini.specs.Views.{bits_in, is_float, is_format, float_code}
 use Rattle.mini.specs.declared.SampleFormat.{SampleFormat}
 use Rattle.mini.specs.declared.SampleFormat.TheVariants.{Integer, Float}
 

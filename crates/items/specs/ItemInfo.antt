@@ -1,7 +1,7 @@
 -- 'iinf', the items of the equivalent file (ISO/IEC 14496-12, 8.11.6; ISO/IEC 23008-12, O.4; document 01, 'The equivalent file'; mini.rs,
 -- `equivalent_file`).
 use Rattle.std.specs.Prelude.{◌≡◌, refl, Bool, true, false, cond, List, [], ◌∷◌, ◌++◌, ℕ, ◌+◌, ◌≤◌, length}
-use Rattle.std.proofs.Common.{append-nil, append_assoc, arith, length-append}
+use Rattle.std.proofs.Common.{append-nil, arith, length-append}
 use Rattle.mini.specs.Cut.{joined, joined-append}
 use Rattle.octets.specs.BigEndian.{be}
 use Rattle.octets.specs.BigEndianLaws.{length-be}

@@ -1,6 +1,6 @@
 -- The boxes for high dynamic range (ISO/IEC 14496-12, 12.1; `hdr` in `equivalent_file` of mini.rs). Their bodies are held in the record;
 -- 'reve' and 'ndwt' are full boxes. Beside each box stands its length.
-use Rattle.std.specs.Prelude.{List, ℕ, ◌+◌, take, get_or}
+use Rattle.std.specs.Prelude.{List, ℕ, ◌+◌, take}
 use Rattle.boxes.specs.Boxed.{boxed}
 use Rattle.mini.specs.Cclv.{cclv_length}
 use Rattle.properties.specs.Property.{full_box}

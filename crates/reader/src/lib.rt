@@ -1,5 +1,6 @@
 // Reading a MinimizedImageBox payload to its record: `MinimizedImage::parse` of mini.rs.
 #![tactic(auto)]
+
 ghost use Rattle.std.specs.Prelude.{◌≡◌};
 ghost use Rattle.mini.specs.Read.{read_mini};
 

@@ -1,6 +1,6 @@
 -- The HDR bodies that a record holds have the lengths that its type gives them: an array's length is known of every value in the code, and
 -- here of every record that can be written. Assumes nothing.
-use Rattle.std.specs.Prelude.{◌≡◌, ℕ, T, length}
+use Rattle.std.specs.Prelude.{◌≡◌, T, length}
 use Rattle.mini.specs.NoPayloadGives.{lawful}
 use Rattle.mini.specs.Ranges as ranges
 use Rattle.mini.specs.Write.{writable}

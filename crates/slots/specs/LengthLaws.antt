@@ -1,5 +1,5 @@
 -- 'ipco', 'ipma' and 'iprp' are as long as the record alone says, where its chunks lie in the source.
-use Rattle.std.specs.Prelude.{◌≡◌, Bool, true, false, ◌||◌, List, [], ◌++◌, ℕ, zero, suc, ◌+◌, ◌*◌, ltb, length, take, drop, replicate}
+use Rattle.std.specs.Prelude.{◌≡◌, Bool, true, false, ◌||◌, List, [], ◌++◌, ℕ, zero, suc, ◌*◌, ltb, length, take, drop, replicate}
 use Rattle.std.proofs.Math.Path.{refl}
 use Rattle.std.proofs.Common.{◌∙◌, arith, ltb-false, length-drop, length-take-le}
 use Rattle.std.proofs.Math.Bool.{not}

@@ -15,7 +15,7 @@
 --     23          'colr' prof                   a gain map with an ICC profile for the tone map
 --     24 to 29    the HDR boxes                 a gain map, and it holds the body
 --     30, 31, 32  none                          never
-use Rattle.std.specs.Prelude.{Bool, true, false, not, ◌&&◌, ◌||◌, List, [], ◌∷◌, ◌++◌, map, ℕ, ◌+◌, ltb, length, replicate}
+use Rattle.std.specs.Prelude.{Bool, true, false, not, ◌&&◌, ◌||◌, List, [], ◌∷◌, ◌++◌, map, ℕ, ltb, length, replicate}
 use Rattle.boxes.specs.Boxed.{boxed}
 use Rattle.mini.specs.Chunks.{is_present}
 use Rattle.mini.specs.Cicp.{cicp_of}

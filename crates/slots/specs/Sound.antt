@@ -1,6 +1,6 @@
 -- What the writers of 'iprp' need of a record and its source: a number in its field, chunks that lie in the source, and lengths within
 -- the long fields' limits (document 01, 'src/mini.rs, writing'). Every record that is well placed and can be written has it.
-use Rattle.std.specs.Prelude.{◌≡◌, refl, Bool, true, false, not, ◌&&◌, ◌||◌, List, ℕ, ◌+◌, ◌≤◌, T, leb, length}
+use Rattle.std.specs.Prelude.{◌≡◌, refl, Bool, true, false, not, ◌&&◌, ◌||◌, List, ℕ, ◌+◌, ◌≤◌, T, length}
 use Rattle.std.proofs.Common.{ap, true≢false, leb→le}
 use Rattle.bits.specs.Format.{and_split}
 use Rattle.mini.specs.Blank.{blank_gain_map}

@@ -6,8 +6,6 @@ use Rattle.std.proofs.Math.Nat.{zero-min, min-zero, suc-min-suc}
 use Rattle.octets.specs.Overwrite.{overwrite, Wrote}
 use Rattle.octets.specs.OverwriteLaws.{overwrite-append, overwrite-nil, length-overwrite}
 use Rattle.octets.specs.Part.{part_of}
-use Rattle.mini.specs.Same.{span_bytes}
-use Rattle.mini.specs.declared.Span.{Span}
 
 pub record Laid (o : List ℕ) (at : ℕ) (bs o' : List ℕ) (r : ℕ) : Type 0 where
   pub next : r ≡ (at + length bs) % 2 ^ 64

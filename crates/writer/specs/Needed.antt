@@ -1,7 +1,6 @@
 -- The length that a box needs, and the ways through the answer of writing. Assumes nothing.
-use Rattle.std.specs.Prelude.{◌≡◌, ℕ, ◌+◌, ◌-◌, ◌%◌, ◌^◌, ◌<◌, ◌≤◌, Bool, true, false, cond, not, ◌&&◌, T, List, ◌++◌, length, take, drop, nat_lt, refl}
-use Rattle.std.proofs.Common.{sym, ap, ap₂, ◌∙◌, subst, true≢false, arith, length-append, length-take, lt-ltb, le-ltb}
-use Rattle.std.proofs.lemmas.Bool.{false≢true}
+use Rattle.std.specs.Prelude.{◌≡◌, ℕ, ◌+◌, ◌-◌, ◌^◌, ◌<◌, ◌≤◌, Bool, false, cond, T, List, ◌++◌, length, take, drop, nat_lt}
+use Rattle.std.proofs.Common.{sym, ap, ap₂, ◌∙◌, subst, arith, length-append, length-take, lt-ltb, le-ltb}
 use Rattle.octets.specs.Overwrite.{overwrite, Wrote}
 use Rattle.octets.specs.OverwriteLaws.{overwrite_before, overwrite-append, length-overwrite}
 use Rattle.boxes.specs.Boxed.{boxed, box_header, HeaderPut, length-boxed, length-box_header}
@@ -11,7 +10,7 @@ use Rattle.mini.specs.Cut.{joined}
 use Rattle.mini.specs.HeaderLength.{near_header}
 use Rattle.mini.specs.NoPayloadGives.{lawful}
 use Rattle.mini.specs.Payload.{header_bits, chunks_start, header_padded}
-use Rattle.mini.specs.Same.{chunk_len, chunk_bytes, span_bytes, chunks_of, well_placed}
+use Rattle.mini.specs.Same.{chunk_len, chunk_bytes, chunks_of}
 use Rattle.mini.specs.Syntax.{header}
 use Rattle.mini.specs.Write.{header_of, payload_of, payload_with, writable}
 use Rattle.mini.specs.declared.Chunk.{Chunk}
@@ -19,7 +18,7 @@ use Rattle.mini.specs.declared.Chunk.TheVariants.{Absent, Present}
 use Rattle.mini.specs.declared.Header.{Header}
 use Rattle.mini.specs.declared.MinimizedImage.{MinimizedImage}
 use Rattle.writer.specs.Laid.{Laid}
-use Rattle.writer.specs.ToBox.{box_of, refused, written, answer, HeaderHeld}
+use Rattle.writer.specs.ToBox.{box_of, refused, written, HeaderHeld}
 use Rattle.writer.specs.declared.Written.{Written}
 
 take-le : (n : ℕ) (l : List ℕ) → length (take n l) ≤ n

@@ -1,5 +1,5 @@
 -- Writing a record as a 'mini' box: document 01, 'src/mini.rs, writing' and 'What goes back when it cannot be done', 10, 11 and 16.
-use Rattle.std.specs.Prelude.{◌≡◌, ℕ, ◌+◌, ◌-◌, ◌*◌, ◌/◌, ◌%◌, ◌^◌, ◌<◌, ◌≤◌, Bool, true, false, cond, not, ◌&&◌, T, List, [], ◌++◌, length, take, ◌==◌, nat_eq, nat_lt, refl}
+use Rattle.std.specs.Prelude.{◌≡◌, ℕ, ◌+◌, ◌-◌, ◌*◌, ◌%◌, ◌^◌, ◌≤◌, Bool, true, false, cond, not, ◌&&◌, T, List, [], ◌++◌, length, take, ◌==◌, nat_eq, nat_lt, refl}
 use Rattle.std.proofs.Math.Path.{sym}
 use Rattle.std.proofs.Common.{ap, ap₂, ◌∙◌, subst, arith, pow_pos}
 use borrow.Author.Tests.{lt-ltb, not-true, not-false}
@@ -9,7 +9,7 @@ use Rattle.boxes.specs.Boxed.{boxed}
 use Rattle.bits.specs.Bit.{bits_n, length-bits_n}
 use Rattle.bits.specs.State.{bytes_of}
 use Rattle.bits.specs.Format.{field, view, length-bytes_of, and_split}
-use Rattle.bit_writer.specs.Writer.{feed, place, waiting, fits, Fed, Puts}
+use Rattle.bit_writer.specs.Writer.{feed, place, waiting, fits, Puts}
 use Rattle.bit_writer.specs.WriterLaws.{fed_then, fed_as, feed-bytes, feed_count}
 use Rattle.bit_writer.specs.declared.BitWriter.{BitWriter}
 use Rattle.mini.specs.HeaderLength.{near_header}
@@ -103,11 +103,11 @@ pub record HeaderOf (i : MinimizedImage) (bytes : List ℕ) (len : ℕ) (t : Boo
   pub ok : t ≡ writable i
   pub held : T (writable i) → HeaderHeld (header_of i) bytes len
 
-pub header_of : (i : MinimizedImage) {bytes : List ℕ} {len fault : ℕ} {a g full t : Bool} → HeaderIn (header_of i) bytes len fault
+pub header_of_lem : (i : MinimizedImage) {bytes : List ℕ} {len fault : ℕ} {a g full t : Bool} → HeaderIn (header_of i) bytes len fault
     → a ≡ not_empty i.alpha_codec_config → g ≡ not_empty i.gain_map.codec_config → full ≡ (a && g) → t ≡ (fault == 0 && full)
     → HeaderOf i bytes len t
 unfolding writable
-header_of i h ea eg ef et =
+header_of_lem i h ea eg ef et =
     record {
       ok = et ∙ ap₂ (λ (x y : Bool). x && y) h.ok (ef ∙ ap₂ (λ (x y : Bool). x && y) ea eg);
       held = λ w. h.held ((header.dec (header_of i)).0 (and_split (header.good (header_of i)) _ w).0);

@@ -1,5 +1,6 @@
 // Writing a record as a 'mini' box: `MinimizedImage::to_box` of mini.rs.
 #![tactic(auto)]
+
 ghost use Rattle.std.specs.Prelude.{◌≡◌, T};
 ghost use Rattle.mini.specs.Write.{header_of, writable};
 ghost use Rattle.writer.specs.ToBox.{HeaderHeld, HeaderOf, written, answer};

@@ -1,4 +1,4 @@
-use Rattle.std.proofs.Common.{add-one, arith, length, ne_eqb, refl, sym, ◌*◌, ◌-◌, ◌/◌, ◌≡◌}
+use Rattle.std.proofs.Common.{add-one, arith, length, ne_eqb, refl, sym, ◌*◌, ◌/◌, ◌≡◌}
 use Rattle.octets.specs.BigEndian.{num}
 use Rattle.ftyp.specs.FileType.{has_brand}
 use Rattle.ftyp.specs.FileTypeLaws.{among-found}
