@@ -1,5 +1,5 @@
 -- The equivalent file (ISO/IEC 23008-12, O.4; document 01, 'The equivalent file'; mini.rs, `equivalent_file`): ftyp, meta, mdat.
-use Rattle.std.specs.Prelude.{Bool, true, false, List, [], ◌∷◌, ◌++◌, ℕ, ◌+◌}
+use Rattle.std.specs.Prelude.{List, [], ◌∷◌, ◌++◌, ℕ, ◌+◌}
 use Rattle.boxes.specs.Boxed.{boxed, full_box_header}
 use Rattle.ftyp.specs.FileType.{ftyp, ftyp_len}
 use Rattle.items.specs.HandlerAndPrimary.{hdlr, hdlr_len, pitm, pitm_len}

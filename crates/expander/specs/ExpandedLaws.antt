@@ -1,6 +1,6 @@
 -- What expanding leaves in the output holds every byte where its location says (demand 3); the payloads that the demand names are among
 -- those that expand; and the numbers that come back are small (demand 1).
-use Rattle.std.specs.Prelude.{◌≡◌, Bool, not, cond, List, ℕ, ◌≤◌, ◌<◌, T, eqb, length, take}
+use Rattle.std.specs.Prelude.{◌≡◌, Bool, not, cond, List, ℕ, ◌≤◌, ◌<◌, eqb, length, take}
 use Rattle.std.proofs.Math.Path.{refl}
 use Rattle.std.proofs.Common.{sym, subst, arith, lit≤, eqb-true, ltb-false}
 use Rattle.std.proofs.Math.Bool.{true, false}

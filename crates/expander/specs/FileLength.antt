@@ -16,7 +16,7 @@ use Rattle.slots.specs.Bodies.{bodies}
 use Rattle.slots.specs.LengthLaws.{length-iprp}
 use Rattle.slots.specs.Lengths.{iprp_len}
 use Rattle.slots.specs.Sound.{sound}
-use Rattle.expander.specs.EquivalentFile.{item_set, item_bytes, data_lengths, item_boxes, meta_body, meta_body_len, meta, mdat, file_len, file}
+use Rattle.expander.specs.EquivalentFile.{item_bytes, data_lengths, item_boxes, meta_body, meta_body_len, meta, mdat, file_len, file}
 use Rattle.expander.specs.Expands.{Expands}
 use Rattle.expander.specs.Placed as placed
 use Rattle.expander.specs.Placed.{Fit, fit, data_placed, lengths_are}

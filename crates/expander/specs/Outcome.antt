@@ -1,6 +1,6 @@
 -- What expanding answers and leaves in the output, for every record, source, original file type and output (document 01, 'What goes back
 -- when it cannot be done': 10 to 16 in this order).
-use Rattle.std.specs.Prelude.{Bool, true, false, not, cond, ◌&&◌, ◌||◌, List, [], ◌∷◌, ℕ, eqb, ltb, length}
+use Rattle.std.specs.Prelude.{Bool, false, not, cond, ◌&&◌, ◌||◌, List, [], ◌∷◌, ℕ, eqb, ltb, length}
 use Rattle.octets.specs.Overwrite.{overwrite}
 use Rattle.boxes.specs.Header.{UUID}
 use Rattle.ftyp.specs.FileType.{allowed}

@@ -1,12 +1,12 @@
 -- The ways through the answer of expanding. Assumes nothing.
-use Rattle.std.specs.Prelude.{◌≡◌, refl, Bool, true, false, ℕ, ◌+◌, ◌≤◌, ◌<◌, eqb, ltb}
+use Rattle.std.specs.Prelude.{◌≡◌, Bool, ℕ, ◌≤◌, ◌<◌, ltb}
 use Rattle.std.proofs.Math.Path.{sym, ap, ap₂}
 use Rattle.std.proofs.Common.{◌∙◌, subst, eq-eqb, ne_eqb, lt-ltb, le-ltb}
 use Rattle.std.proofs.Math.Bool.{cond}
-use mathlib.Core.List.{List, [], ◌∷◌, ◌++◌}
+use mathlib.Core.List.{List, ◌++◌}
 use Rattle.std.proofs.Math.ListN.{length}
 use Rattle.octets.specs.Overwrite.{overwrite, Wrote}
-use Rattle.ftyp.specs.FileType.{ftyp, file_type, file_type_box}
+use Rattle.ftyp.specs.FileType.{file_type, file_type_box}
 use Rattle.ftyp.specs.FileTypeLaws.{allowed_whole, ftyp_is}
 use Rattle.ftyp.specs.declared.FileType.{FileType}
 use Rattle.mini.specs.declared.MinimizedImage.{MinimizedImage}

@@ -1,5 +1,6 @@
 // Where the parts of a payload lie, as bytes (docs/ABI.md, `bustardcase_outline`).
 #![tactic(auto)]
+
 ghost use Rattle.std.specs.Prelude.{◌+◌, ◌≤◌, length};
 ghost use Rattle.octets.specs.Overwrite.{Wrote};
 ghost use Rattle.outline.specs.OutlineBytes.{outline_of};

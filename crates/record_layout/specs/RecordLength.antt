@@ -1,6 +1,6 @@
 -- The layout of a record is as long as docs/ABI.md says.
-use Rattle.std.specs.Prelude.{◌≡◌, refl, Bool, true, false, List, ℕ, ◌+◌, length}
-use Rattle.std.proofs.Common.{arith, length-append}
+use Rattle.std.specs.Prelude.{◌≡◌, refl, Bool, true, false, length}
+use Rattle.std.proofs.Common.{length-append}
 use Rattle.octets.specs.BigEndianLaws.{length-be}
 use Rattle.mini.specs.declared.ExplicitCicp.{ExplicitCicp}
 use Rattle.mini.specs.declared.ExplicitCicp.TheVariants as cicp-is
@@ -14,7 +14,7 @@ use Rattle.mini.specs.declared.SampleFormat.{SampleFormat}
 use Rattle.mini.specs.declared.SampleFormat.TheVariants.{Integer, Float}
 use Rattle.mini.specs.declared.TmapCicp.{TmapCicp}
 use Rattle.mini.specs.declared.TmapCicp.TheVariants as tmap-is
-use Rattle.layout.specs.PartBytes.{flag_bytes, chunk_bytes, span_bytes, length-flag, length_chunk, length_span}
+use Rattle.layout.specs.PartBytes.{length-flag, length_chunk, length_span}
 use Rattle.record_layout.specs.RecordBytes.{codec_types_bytes, format_bytes, chroma_bytes, colour_bytes, cicp_bytes, tmap_cicp_bytes, hdr_flag_bytes, hdr_body_bytes, hdr_boxes_bytes, hdr_boxes_bytes_if, gain_map_picture_bytes, gain_map_bytes, gain_map_bytes_if, picture_bytes, colour_and_alpha_bytes, item_bytes, record_bytes}
 
 length_types : (t : ExplicitCodecTypes) → length (codec_types_bytes t) ≡ 9

@@ -1,5 +1,6 @@
 // A record as bytes: docs/ABI.md has the layout. Each function writes one field or one group of them.
 #![tactic(auto)]
+
 ghost use Rattle.std.specs.Prelude.{◌≡◌, [], ◌∷◌, ◌++◌, ◌+◌, ◌≤◌, length};
 ghost use Rattle.octets.specs.Overwrite.{Wrote};
 ghost use Rattle.record_layout.specs.RecordBytes.{codec_types_bytes, format_bytes, chroma_bytes, colour_bytes, cicp_bytes, tmap_cicp_bytes, hdr_flag_bytes, hdr_body_bytes, hdr_boxes_bytes, hdr_boxes_bytes_if, gain_map_picture_bytes, gain_map_bytes, gain_map_bytes_if, picture_bytes, colour_and_alpha_bytes, item_bytes, record_bytes};

@@ -1,8 +1,7 @@
 -- Laws of rewriting. Assumes nothing.
-use Rattle.std.specs.Prelude.{◌≡◌, refl, Bool, true, false, cond, ◌⊎◌, List, ◌++◌, ℕ, ◌+◌, ◌≤◌, ◌<◌, T, eqb, ltb, length, take, drop}
-use Rattle.std.proofs.Common.{sym, ap, ap₂, ◌∙◌, subst, true≢false, arith, drop_at, eq-eqb, ne_eqb, eqb-true, ltb-false}
+use Rattle.std.specs.Prelude.{◌≡◌, refl, Bool, true, false, cond, List, ℕ, ◌≤◌, ◌<◌, eqb, ltb, length, take, drop}
+use Rattle.std.proofs.Common.{sym, ap, ◌∙◌, subst, true≢false, arith, drop_at, eq-eqb, ne_eqb, eqb-true, ltb-false}
 use Rattle.std.proofs.lemmas.Bool.{false≢true}
-use Rattle.std.proofs.Math.Pow.{are_bytes}
 use Rattle.octets.specs.Overwrite.{overwrite}
 use Rattle.octets.specs.OverwriteLaws as octets-laws
 use Rattle.boxes.specs.Boxed.{boxed, box_header, length-box_header}
@@ -10,9 +9,8 @@ use Rattle.mini.specs.Read.{read_mini}
 use Rattle.mini.specs.Refusals.{reading_at_most_nine}
 use Rattle.mini.specs.RoundTrip.{ReadsTo, read_writable, shortest}
 use Rattle.mini.specs.RoundTrip as round_trip
-use Rattle.mini.specs.Same.{well_placed}
 use Rattle.mini.specs.WellPlaced.{read_placed}
-use Rattle.mini.specs.Write.{payload_of, writable}
+use Rattle.mini.specs.Write.{payload_of}
 use Rattle.mini.specs.declared.MinimizedImage.{MinimizedImage}
 use Rattle.writer.specs.Needed.{box_small}
 use Rattle.mini.specs.RecordHeader.{T_true}

@@ -1,5 +1,6 @@
 // Rewriting: a payload read, and its record written as a box in its shortest form.
 #![tactic(auto)]
+
 ghost use Rattle.std.specs.Prelude.{◌≡◌, ◌≤◌, ◌<◌, take, drop};
 ghost use Rattle.rewriter.specs.Rewritten.{rewritten, WrittenBack};
 

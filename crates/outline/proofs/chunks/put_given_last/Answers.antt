@@ -1,0 +1,10 @@
+-- `outline::chunks::put_given_last` meets its contract. Assumes nothing.
+use Rattle.octets.specs.OverwriteLaws.{then, nothing}
+use Rattle.outline.specs.Chunks.{given_chunks, chunk_of}
+use Rattle.outline.specs.OutlineBytes.{entries}
+use Rattle.outline.proofs.chunks.put_given_last.Goals as goal
+
+pub returns : goal.returns
+unfolding entries chunk_of given_chunks
+returns c =
+    then c.put_span_entry-a.ensures (then c.put_span_entry-b.ensures (then c.put_entry-c.ensures (then c.put_entry-d.ensures (then c.put_entry.ensures (nothing _ _)))))
