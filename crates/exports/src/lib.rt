@@ -1,5 +1,6 @@
 // The functions that C and Rust programs call, on numbers and byte slices. docs/ABI.md has their numbers and layouts.
 #![tactic(auto)]
+
 pub mod answer;
 
 ghost use Rattle.boxes.specs.Find.{find_box};
@@ -42,8 +43,7 @@ fn answer_header(read: HeaderRead, out: &mut [u8]) -> u64
 }
 
 // Reads the header of the box at `start` of `buf`, for every buffer and every start.
-#[unsafe(no_mangle)]
-pub extern "C" fn bustardcase_box_header(buf: &[u8], start: usize, out: &mut [u8]) -> u64
+pub fn bustardcase_box_header(buf: &[u8], start: usize, out: &mut [u8]) -> u64
     ensures { Answered (header_at buf.now start).refusal (header_bytes (header_at buf.now start).header) out.old out.new result }
 {
     let read = parse_box_header(buf, start);
@@ -51,8 +51,7 @@ pub extern "C" fn bustardcase_box_header(buf: &[u8], start: usize, out: &mut [u8
 }
 
 // Reads a payload to its record, for every payload.
-#[unsafe(no_mangle)]
-pub extern "C" fn bustardcase_read(payload: &[u8], out: &mut [u8]) -> u64
+pub fn bustardcase_read(payload: &[u8], out: &mut [u8]) -> u64
     ensures { Answered (read_mini payload.now).refusal (record_bytes (read_mini payload.now).image) out.old out.new result }
 {
     let reading = parse(payload);
@@ -70,8 +69,7 @@ pub extern "C" fn bustardcase_read(payload: &[u8], out: &mut [u8]) -> u64
 }
 
 // Writes the record of a payload as a box, in its shortest form, for every payload.
-#[unsafe(no_mangle)]
-pub extern "C" fn bustardcase_rewrite(payload: &[u8], out: &mut [u8]) -> u64
+pub fn bustardcase_rewrite(payload: &[u8], out: &mut [u8]) -> u64
     ensures { Answered (read_mini payload.now).refusal (box_of (read_mini payload.now).image payload.now) out.old out.new result }
 {
     let written = rewrite(payload, out);
@@ -79,8 +77,7 @@ pub extern "C" fn bustardcase_rewrite(payload: &[u8], out: &mut [u8]) -> u64
 }
 
 // Writes the equivalent file of the record of a payload, for every payload and every original file type.
-#[unsafe(no_mangle)]
-pub extern "C" fn bustardcase_expand(
+pub fn bustardcase_expand(
     payload: &[u8],
     major: u32,
     minor: u32,
@@ -100,8 +97,7 @@ pub extern "C" fn bustardcase_expand(
 }
 
 // Finds the first box of a type among the boxes that follow one another from the start of `buf`, for every buffer and every type.
-#[unsafe(no_mangle)]
-pub extern "C" fn bustardcase_find_box(buf: &[u8], box_type: u32, out: &mut [u8]) -> u64
+pub fn bustardcase_find_box(buf: &[u8], box_type: u32, out: &mut [u8]) -> u64
     ensures { Answered (find_box box_type buf.now).refusal (header_bytes (find_box box_type buf.now).header) out.old out.new result }
 {
     let found = find_box(buf, box_type);
@@ -109,8 +105,7 @@ pub extern "C" fn bustardcase_find_box(buf: &[u8], box_type: u32, out: &mut [u8]
 }
 
 // Reads the file type of the payload of an 'ftyp' box, for every payload.
-#[unsafe(no_mangle)]
-pub extern "C" fn bustardcase_file_type(body: &[u8], out: &mut [u8]) -> u64
+pub fn bustardcase_file_type(body: &[u8], out: &mut [u8]) -> u64
     ensures { Answered (read_file_type body.now).refusal (file_type_bytes (read_file_type body.now)) out.old out.new result }
 {
     let read = read_file_type(body);
@@ -126,8 +121,7 @@ pub extern "C" fn bustardcase_file_type(body: &[u8], out: &mut [u8]) -> u64
 }
 
 // Checks the record of a payload against what a display takes, for every payload.
-#[unsafe(no_mangle)]
-pub extern "C" fn bustardcase_check(payload: &[u8], out: &mut [u8]) -> u64
+pub fn bustardcase_check(payload: &[u8], out: &mut [u8]) -> u64
     ensures { Answered (read_mini payload.now).refusal (check_bytes (read_mini payload.now).image) out.old out.new result }
 {
     let reading = parse(payload);

@@ -1,6 +1,7 @@
 // The C function that tells where the parts of a payload lie. It is a library of its own: it calls the functions of header_reader one by one, and in
 // one library with `exports` the compiler would no longer merge them into `parse` (docs/DECISIONS.md, 19).
 #![tactic(auto)]
+
 ghost use Rattle.exports.specs.Answer.{Answered};
 ghost use Rattle.mini.specs.Read.{read_mini};
 ghost use Rattle.outline.specs.OutlineBytes.{outline_bytes};

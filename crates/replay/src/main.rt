@@ -1,10 +1,13 @@
 // Replays recorded answers of the supplied Rust: each line of a table is one call, and what it answered.
 #![tactic(auto)]
+
 mod table;
 
-ghost use Rattle.std.specs.Prelude.{◌≤◌, length};
+ghost use Rattle.std.specs.Prelude.{◌≤◌, length, IfOk};
 
-use libc::STDOUT_FILENO;
+use std::fs::File;
+use std::io::{Read, Write};
+use std::{fs, io};
 
 // Whether `out` begins with `want`, and holds nothing but the filler 0xa5 after it.
 fn holds(out: &[u8], want: &[u8]) -> bool {
@@ -12,7 +15,7 @@ fn holds(out: &[u8], want: &[u8]) -> bool {
     if out.len() < n {
         return false;
     }
-    if !check::same(&out[0..n], want) {
+    if &out[0..n] != want {
         return false;
     }
     let mut i = n;
@@ -102,27 +105,36 @@ fn replay(kind: Kind, text: &[u8]) -> Tally {
     Tally { lines, differ }
 }
 
-fn print(name: &[u8], t: Tally) {
-    io::write_all(STDOUT_FILENO, name);
-    io::print_decimal(STDOUT_FILENO, t.lines);
-    io::write_all(STDOUT_FILENO, b" replayed, ");
-    io::print_decimal(STDOUT_FILENO, t.differ);
-    io::write_all(STDOUT_FILENO, b" differ\n");
+fn print(rt: &impl Print, name: &[u8], t: Tally) -> io::Result<()> {
+    let lines = t.lines;
+    let differ = t.differ;
+    io::writer(rt).write_all(name)?;
+    println!(rt; "{lines} replayed, {differ} differ")
 }
 
-fn replay_file(name: &[u8], path: &[u8], kind: Kind) {
-    let mut text = [0u8; 262144];
-    let file = os::open_read(path);
-    if file < 0 {
-        os::fail(path);
-        return;
+// Reads into `buf` until it is full or the file has no more, and says how many bytes there are.
+fn read_full(file: &mut File, buf: &mut [u8]) -> io::Result<usize>
+    ensures { IfOk result (λ n. n ≤ length buf.new) }
+{
+    let mut n = 0;
+    for _ in 0..u64::MAX {
+        let more = file.read(&mut buf[n..])?;
+        if more == 0 {
+            break;
+        }
+        n += more;
     }
-    let n = io::read_full(file, &mut text);
-    libc::close(file);
-    print(name, replay(kind, &text[..n]));
+    Ok(n)
 }
 
-fn main() {
-    replay_file(b"box headers: ", b"box_headers.txt", Kind::BoxHeaders);
-    replay_file(b"readings: ", b"readings.txt", Kind::Readings);
+fn replay_file(rt: &HostRuntime, name: &[u8], path: &str, kind: Kind) -> io::Result<()> {
+    let mut text = [0u8; 262144];
+    let mut file = fs::open(rt, path)?;
+    let n = read_full(&mut file, &mut text)?;
+    print(rt, name, replay(kind, &text[..n]))
+}
+
+fn main(rt: HostRuntime) -> io::Result<()> {
+    replay_file(&rt, b"box headers: ", "box_headers.txt", Kind::BoxHeaders)?;
+    replay_file(&rt, b"readings: ", "readings.txt", Kind::Readings)
 }

@@ -5,6 +5,7 @@ use crate::print::{print, print_number};
 use mini::{Chunk, MiniGainMap, MinimizedImage, Span};
 use reader::parse;
 use record_header::header_of;
+use std::io;
 use writer::is_writable;
 
 #[derive(Clone, Copy)]
@@ -173,12 +174,11 @@ fn record(f: MinimizedImage, z: Numbers) -> MinimizedImage {
     }
 }
 
-fn form(field: Field, n: u32) {
-    print_number(b" ", n as usize);
+fn form(rt: &impl Print, field: Field, n: u32) -> io::Result<()> {
+    print_number(rt, b" ", n as usize)?;
     let i = record(full(), with(field, n));
     if !is_writable(i) {
-        print(b" 11");
-        return;
+        return print(rt, b" 11");
     }
     let h = header_of(i);
     let d = h.dimensions;
@@ -189,51 +189,64 @@ fn form(field: Field, n: u32) {
         z.large_codec_config,
         z.large_item_data,
     ) {
-        print(b" long");
+        print(rt, b" long")
     } else {
-        print(b" short");
+        print(rt, b" short")
     }
 }
 
 // At the end of the short form, one more, at the end of the long form, and one more.
-fn limits(label: &[u8], field: Field, short: u32, long: u32)
+fn limits(rt: &impl Print, label: &[u8], field: Field, short: u32, long: u32) -> io::Result<()>
     requires { (short < 4294967295) × (long < 4294967295) }
 {
-    print(label);
-    form(field, short);
-    form(field, short + 1);
-    form(field, long);
-    form(field, long + 1);
-    print(b"\n");
+    print(rt, label)?;
+    form(rt, field, short)?;
+    form(rt, field, short + 1)?;
+    form(rt, field, long)?;
+    form(rt, field, long + 1)?;
+    print(rt, b"\n")
 }
 
-pub fn dimensions() {
-    limits(b"width:", Field::Width, 128, 32768);
-    limits(b"height:", Field::Height, 128, 32768);
-    limits(b"gain_map width:", Field::GainMapWidth, 128, 32768);
+pub fn dimensions(rt: &impl Print) -> io::Result<()> {
+    limits(rt, b"width:", Field::Width, 128, 32768)?;
+    limits(rt, b"height:", Field::Height, 128, 32768)?;
+    limits(rt, b"gain-map width:", Field::GainMapWidth, 128, 32768)
 }
 
-pub fn metadata() {
-    limits(b"ICC:", Field::Icc, 1024, 1048576);
-    limits(b"tone_map ICC:", Field::TmapIcc, 1024, 1048576);
-    limits(b"Exif:", Field::Exif, 1024, 1048576);
-    limits(b"XMP:", Field::Xmp, 1024, 1048576);
-    limits(b"gain_map metadata:", Field::GainMapMetadata, 1023, 1048575);
-}
-
-pub fn item_data() {
-    limits(b"main data:", Field::MainData, 32768, 268435456);
-    limits(b"alpha data:", Field::AlphaData, 32767, 268435455);
-    limits(b"gain_map data:", Field::GainMapData, 32767, 268435455);
-}
-
-pub fn codec_configs() {
-    limits(b"main configuration:", Field::MainCodecConfig, 7, 4095);
-    limits(b"alpha configuration:", Field::AlphaCodecConfig, 7, 4095);
+pub fn metadata(rt: &impl Print) -> io::Result<()> {
+    limits(rt, b"ICC:", Field::Icc, 1024, 1048576)?;
+    limits(rt, b"tone-map ICC:", Field::TmapIcc, 1024, 1048576)?;
+    limits(rt, b"Exif:", Field::Exif, 1024, 1048576)?;
+    limits(rt, b"XMP:", Field::Xmp, 1024, 1048576)?;
     limits(
-        b"gain_map configuration:",
+        rt,
+        b"gain-map metadata:",
+        Field::GainMapMetadata,
+        1023,
+        1048575,
+    )
+}
+
+pub fn item_data(rt: &impl Print) -> io::Result<()> {
+    limits(rt, b"main data:", Field::MainData, 32768, 268435456)?;
+    limits(rt, b"alpha data:", Field::AlphaData, 32767, 268435455)?;
+    limits(rt, b"gain-map data:", Field::GainMapData, 32767, 268435455)
+}
+
+pub fn codec_configs(rt: &impl Print) -> io::Result<()> {
+    limits(rt, b"main configuration:", Field::MainCodecConfig, 7, 4095)?;
+    limits(
+        rt,
+        b"alpha configuration:",
+        Field::AlphaCodecConfig,
+        7,
+        4095,
+    )?;
+    limits(
+        rt,
+        b"gain-map configuration:",
         Field::GainMapCodecConfig,
         7,
         4095,
-    );
+    )
 }

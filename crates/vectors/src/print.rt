@@ -1,11 +1,12 @@
 // Text and numbers on standard output.
-use libc::STDOUT_FILENO;
+use std::io;
+use std::io::Write;
 
-pub fn print(text: &[u8]) {
-    io::write_all(STDOUT_FILENO, text);
+pub fn print(rt: &impl Print, text: &[u8]) -> io::Result<()> {
+    io::writer(rt).write_all(text)
 }
 
-pub fn print_number(text: &[u8], n: usize) {
-    print(text);
-    io::print_decimal(STDOUT_FILENO, n as u64);
+pub fn print_number(rt: &impl Print, text: &[u8], n: usize) -> io::Result<()> {
+    print(rt, text)?;
+    print!(rt; "{n}")
 }
