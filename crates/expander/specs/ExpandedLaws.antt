@@ -10,10 +10,10 @@ use Rattle.octets.specs.Overwrite.{overwrite}
 use Rattle.octets.specs.OverwriteLaws.{written}
 use Rattle.ftyp.specs.FileType.{allowed}
 use Rattle.mini.specs.Read.{read_mini}
-use Rattle.mini.specs.RoundTrip.{read_writable}
+use Rattle.mini.proofs.RoundTrip.{read_writable}
 use Rattle.mini.specs.Same.{well_placed}
 use Rattle.mini.specs.Views.{has_codec_types}
-use Rattle.mini.specs.WellPlaced.{read_placed}
+use Rattle.mini.proofs.WellPlaced.{read_placed}
 use Rattle.mini.specs.Write.{writable}
 use Rattle.mini.specs.declared.MinimizedImage.{MinimizedImage}
 use Rattle.slots.specs.Bounds.{cond_most}

@@ -11,7 +11,7 @@ use Rattle.mini.specs.Chunks.{is_present}
 use Rattle.mini.specs.Same.{chunk_len, unplaced_chunk, unplaced}
 use Rattle.mini.specs.Write.{not_empty, Choices, least, header_with, header_of, writable}
 use Rattle.mini.specs.RecordHeader.{parts}
-use Rattle.mini.specs.Narrowest.{field_if-off, flag_if-off, gain_more}
+use Rattle.mini.specs.OptionalFields.{field_if-off, flag_if-off, gain_more}
 use Rattle.mini.specs.Ranges.{Within, FormatIn, format_iff, gain_format_iff, CicpIn, cicp_iff, TypesIn, types_iff, TmapIn, tmap_iff, Centred, chroma_iff, Bodies, boxes_iff}
 use Rattle.mini.specs.declared.Chunk.{Chunk}
 use Rattle.mini.specs.declared.Chunk.TheVariants.{Absent, Present}

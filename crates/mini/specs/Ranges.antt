@@ -12,7 +12,7 @@ use Rattle.mini.specs.Blank.{blank_hdr_boxes}
 use Rattle.mini.specs.Bytes.{bytes-append, bytes_take}
 use Rattle.mini.specs.Cclv.{cclv_more, cclv_length}
 use Rattle.mini.specs.HeaderLength.{cclv_most}
-use Rattle.mini.specs.Narrowest.{flag_good, flag_if_good, flag_if-off}
+use Rattle.mini.specs.OptionalFields.{flag_good, flag_if_good, flag_if-off}
 use Rattle.mini.specs.declared.SampleFormat.{SampleFormat}
 use Rattle.mini.specs.declared.SampleFormat.TheVariants.{Integer, Float}
 use Rattle.mini.specs.declared.ExplicitCodecTypes.{ExplicitCodecTypes}

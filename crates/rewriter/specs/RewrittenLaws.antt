@@ -7,9 +7,10 @@ use Rattle.octets.specs.OverwriteLaws as octets-laws
 use Rattle.boxes.specs.Boxed.{boxed, box_header, length-box_header}
 use Rattle.mini.specs.Read.{read_mini}
 use Rattle.mini.specs.Refusals.{reading_at_most_nine}
-use Rattle.mini.specs.RoundTrip.{ReadsTo, read_writable, shortest}
-use Rattle.mini.specs.RoundTrip as round_trip
-use Rattle.mini.specs.WellPlaced.{read_placed}
+use Rattle.mini.specs.RoundTrip.{ReadsTo}
+use Rattle.mini.proofs.RoundTrip.{read_writable, shortest}
+use Rattle.mini.proofs.RoundTrip as round_trip
+use Rattle.mini.proofs.WellPlaced.{read_placed}
 use Rattle.mini.specs.Write.{payload_of}
 use Rattle.mini.specs.declared.MinimizedImage.{MinimizedImage}
 use Rattle.writer.specs.Needed.{box_small}

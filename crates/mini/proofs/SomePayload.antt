@@ -6,9 +6,10 @@ use Rattle.std.proofs.Math.Pow.{are_bytes}
 use Rattle.mini.specs.Same.{well_placed}
 use Rattle.mini.specs.Write.{payload_of, writable}
 use Rattle.mini.specs.WrittenBytes.{written-bytes}
-use Rattle.mini.specs.RoundTrip.{ReadsTo, written, reads_writable}
+use Rattle.mini.specs.RoundTrip.{ReadsTo}
+use Rattle.mini.proofs.RoundTrip.{written, reads_writable}
 use Rattle.mini.specs.NoPayloadGives.{Lawful}
-use Rattle.mini.specs.ListIsExact.{lawful_iff}
+use Rattle.mini.proofs.ListIsExact.{lawful_iff}
 use Rattle.mini.specs.declared.MinimizedImage.{MinimizedImage}
 
 -- `writable`, by which the writer refuses

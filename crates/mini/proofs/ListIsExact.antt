@@ -12,7 +12,8 @@ use Rattle.mini.specs.Chunks.{is_present}
 use Rattle.mini.specs.Same.{chunk_len, unplaced_chunk, unplaced}
 use Rattle.mini.specs.Write.{not_empty, Choices, header_with, header_of, writable}
 use Rattle.mini.specs.RecordHeader.{whole}
-use Rattle.mini.specs.Narrowest.{or_none, flag_good, flag_if_good, least_good}
+use Rattle.mini.specs.OptionalFields.{or_none, flag_good, flag_if_good}
+use Rattle.mini.proofs.Narrowest.{least_good}
 use Rattle.mini.specs.Ranges.{Within, format_iff, gain_format_iff, cicp_iff, types_iff, tmap_iff, chroma_iff, boxes_iff}
 use Rattle.mini.specs.NoPayloadGives.{Lawful, lawful}
 use Rattle.mini.specs.declared.Chunk.{Chunk}

@@ -6,7 +6,7 @@ use Rattle.std.proofs.Common.{sym, ◌∙◌, subst, true≢false, lt_of_lt_of_l
 use Rattle.std.proofs.Math.Bool.{true}
 use Rattle.std.proofs.lemmas.Bool.{false≢true}
 use Rattle.std.proofs.Math.Dec.{ltb}
-use Rattle.bits.specs.Format.{◌>>=◌, flag, field_if, minus1_if, flag_if, minus1, sized, view}
+use Rattle.bits.specs.Format.{◌>>=◌, field_if, minus1_if, flag_if, sized, view}
 use Rattle.bits.specs.Bit.{to_n, length-bits_n}
 use Rattle.mini.specs.Syntax.{header, dimensions, gain_map_header, gain_map_dimension, chunk_sizes}
 use Rattle.mini.specs.RecordHeader.{parts, whole}
@@ -14,24 +14,11 @@ use Rattle.mini.specs.Chunks.{is_present}
 use Rattle.mini.specs.Same.{chunk_len}
 use Rattle.mini.specs.Write.{Choices, least, header_with}
 use Rattle.mini.specs.declared.MinimizedImage.{MinimizedImage}
-
--- ---- tests
-pub or_none : (a b : Bool) → (a || b) ≡ false → (a ≡ false) × (b ≡ false)
-or_none true b e = absurd (true≢false e)
-or_none false b e = (refl, e)
+use Rattle.mini.specs.OptionalFields.{or_none, flag_good, flag_if_good, gain_more, flag_if-off}
 
 none_or : (a b : Bool) → a ≡ false → b ≡ false → (a || b) ≡ false
 none_or true b e f = e
 none_or false b e f = f
-
-pub flag_good : (b : Bool) → flag.Good b
-unfolding view
-flag_good true = (lit≤ tt, refl)
-flag_good false = (lit≤ tt, refl)
-
-pub flag_if_good : (t b : Bool) → (t ≡ false → b ≡ false) → (flag_if t).Good b
-flag_if_good true b h = flag_good b
-flag_if_good false b h = h refl
 
 -- ---- a number that fits one width fits another
 fit : (a b : ℕ) (w n : Bool) (v : ℕ) → b ≤ a → v < 2 ^ sized w a b → (n ≡ false → v < 2 ^ b) → v < 2 ^ sized n a b
@@ -67,14 +54,6 @@ at_most_field b v e = omega (arith, ltb-false (2 ^ b - 1) v e, pow_pos b)
 
 at_most_more : (b v : ℕ) → ltb (2 ^ b) v ≡ false → v - 1 < 2 ^ b
 at_most_more b v e = omega (arith, ltb-false (2 ^ b) v e, pow_pos b)
-
--- ---- a gain map's dimension is one that a field could hold, whether it is stored or not
-pub gain_more : (has same large : Bool) (main v : ℕ) → (gain_map_dimension has same large main).Good v → (minus1 (sized large 15 7)).Good main
-    → (minus1_if has (sized large 15 7)).Good v
-unfolding gain_map_dimension ◌>>=◌ view
-gain_more true true large main v g m = subst (λ (k : ℕ). (minus1 (sized large 15 7)).Good k) (sym g) m
-gain_more true false large main v g m = g
-gain_more false same large main v g m = g
 
 gain_fit : (has n large : Bool) (main v : ℕ) → (n ≡ true → v ≡ main) → (minus1_if has (sized large 15 7)).Good v → (gain_map_dimension has n large main).Good v
 unfolding gain_map_dimension ◌>>=◌ view
@@ -131,14 +110,6 @@ both_true false b e f = e
 true_both : (a b : Bool) → (a && b) ≡ true → (a ≡ true) × (b ≡ true)
 true_both true b e = (refl, e)
 true_both false b e = absurd (false≢true e)
-
-pub field_if-off : (t : Bool) (n v : ℕ) → (field_if t n).Good v → t ≡ false → v ≡ 0
-field_if-off true n v g e = absurd (true≢false e)
-field_if-off false n v g e = g
-
-pub flag_if-off : (t b : Bool) → (flag_if t).Good b → t ≡ false → b ≡ false
-flag_if-off true b g e = absurd (true≢false e)
-flag_if-off false b g e = g
 
 false-and : (a b : Bool) → a ≡ false → (a && b) ≡ false
 false-and true b e = absurd (true≢false e)
