@@ -268,6 +268,7 @@ impl Bits {
     }
 
     // Whether n bits more are there, and the state past them.
+    #[tactic(auto, using(crate::specs::Run::ahead_stuck, crate::specs::Run::ahead_there, crate::specs::Run::ahead_short), unfolding(crate::specs::Run::state))]
     fn ahead(self, data: &[u8], n: usize) -> FlagRead
         requires { n ≤ 512 }
         ensures ahead { ahead «data».now (state self) n ≡ (result.value, state result.next) }

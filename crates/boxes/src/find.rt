@@ -5,6 +5,7 @@ ghost use Rattle.boxes.specs.Find.{find_box};
 use crate::{FourCc, HeaderRead, parse_box_header};
 
 // For every buffer and every type. It ends, since a box has at least the eight bytes of its header.
+#[tactic(auto, using(crate::specs::Find::found_none, crate::specs::Find::found_here, crate::specs::Find::found_later, crate::specs::Find::moves_on))]
 pub fn find_box(buf: &[u8], box_type: FourCc) -> HeaderRead
     ensures { result ≡ find_box box_type buf.now }
 {

@@ -408,6 +408,7 @@ impl MinimizedImage {
     }
 
     // Width and height as shown: the orientations 5 to 8 exchange them.
+    #[tactic(auto, using(crate::specs::ShownSize::exchanged, crate::specs::ShownSize::kept_below, crate::specs::ShownSize::kept_above))]
     pub fn shown_size(self) -> Size
         ensures { result ≡ shown_size self }
     {

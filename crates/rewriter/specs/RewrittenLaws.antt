@@ -7,7 +7,6 @@ use Rattle.octets.specs.OverwriteLaws as octets-laws
 use Rattle.boxes.specs.Boxed.{boxed, box_header, length-box_header}
 use Rattle.mini.specs.Read.{read_mini}
 use Rattle.mini.specs.Refusals.{reading_at_most_nine}
-use Rattle.mini.specs.RoundTrip.{ReadsTo}
 use Rattle.mini.proofs.RoundTrip.{read_writable, shortest}
 use Rattle.mini.proofs.RoundTrip as round_trip
 use Rattle.mini.proofs.WellPlaced.{read_placed}
@@ -17,6 +16,7 @@ use Rattle.writer.specs.Needed.{box_small}
 use Rattle.mini.specs.RecordHeader.{T_true}
 use Rattle.writer.specs.ToBox.{box_of, refused, written, answer, past_11}
 use Rattle.writer.specs.declared.Written.{Written}
+use Rattle.mini.specs.declared.Reading.{Reading}
 use Rattle.rewriter.specs.Rewritten.{rewritten, WrittenBack}
 
 -- what is read is written: neither 10 nor 11
@@ -108,6 +108,10 @@ rewritten_small p o {w} {o'} e =
         → ((cond t (written i p o) (refused r 0 o)).0.refusal ≤ 16) × ((cond t (written i p o) (refused r 0 o)).0.len < 4294967296)
     go true f = fits (ltb (length o) n) (box_small i p (read_writable p (eqb-true r 0 f)))
     go false f = (omega (arith, reading_at_most_nine p), omega arith)
+
+-- a refusal of reading is below 17
+pub refused_small : (p : List ℕ) {r : Reading} → r ≡ read_mini p → r.refusal ≤ 16
+refused_small p e = rw e (omega (arith, reading_at_most_nine p))
 
 -- all that rewriting promises follows from its definition
 pub promised : (p o : List ℕ) {w : Written} {o' : List ℕ} → ◌≡◌ {A = Written × List ℕ} (w, o') (rewritten p o)

@@ -8,6 +8,7 @@ use reader::parse;
 use writer::{Written, to_box};
 
 // The number of the reader's refusal; else the writer's answer.
+#[tactic(auto, using(crate::specs::RewrittenLaws::refused_as_read, crate::specs::RewrittenLaws::read_then_written, crate::specs::RewrittenLaws::refused_small))]
 pub fn rewrite(payload: &[u8], out: &mut [u8]) -> Written
     ensures answer { (result, out.new) ≡ rewritten payload.now out.old }
     ensures written_back { result.refusal ≡ 0 → WrittenBack payload.now (drop 8 (take result.len out.new)) }
