@@ -1,8 +1,7 @@
 /* Bustardcase: the low-overhead image format (ISO/IEC 23008-12 Amd 2, Annex O: the MinimizedImageBox, 'mini'), proved.
 
-   Link target/staticlib/libexports.a, which `rt staticlib exports` makes, and for bustardcase_outline also
-   target/staticlib/libexports_outline.a, which `rt staticlib exports_outline` makes; they need no other library. docs/ABI.md
-   says the same at more length; examples/ has programs.
+   Link target/staticlib/libexports.a, and for bustardcase_outline also target/staticlib/libexports_outline.a; ./bustardcase
+   makes both, and they need no other library. docs/ABI.md says the same at more length; examples/ has programs.
 
    A slice is passed as a pointer and a length. Where the length is 0, the pointer may be null. Outputs must not overlap
    inputs. Nothing is kept after a call, and nothing is allocated; the functions may be called from several threads. */

@@ -132,7 +132,7 @@ module _ (i : MinimizedImage) (l : Lawful i) where
       let format = (gain_format_iff has m.format).1 (blank (λ (x : MiniGainMap). x.format), l.gain_format) in
       let icc = flag_if_good has (is_present m.tmap_icc) no_tmap_icc in
       let explicit = flag_if_good has (has_tmap_cicp m.tmap_cicp) (blank (λ (x : MiniGainMap). has_tmap_cicp x.tmap_cicp)) in
-      let cicp = (tmap_iff m.tmap_cicp).1 l.tmap_cicp_lem in
+      let cicp = (tmap_iff m.tmap_cicp).1 l.tmap_cicp in
       ((present, (same, (width, (height, (matrix, (full, (subsampling, (chroma, (float, (format, (icc, (explicit, cicp)))))))))))), refl)
 
   sizes_good : (chunk_sizes (header_with i (widest i)).flags (header_with i (widest i)).gain_map).Good (header_with i (widest i)).sizes
@@ -154,11 +154,11 @@ module _ (i : MinimizedImage) (l : Lawful i) where
       let main_config : i.main_codec_config.len < 2 ^ 12 = omega (arith, l.config_size.0) in
       let main_data = minus1_good 28 i.main_data.len (l.main_data, l.main_size) in
       let alpha_data = field_if_good i.alpha 28 i.alpha_data.len l.alpha_bytes (omega (arith, l.alpha_size)) in
-      let alpha_config_lem = config_good i.alpha i.alpha_data.len (chunk_len i.alpha_codec_config) l.alpha_bytes l.alpha_config_alone l.config_size.1 in
+      let alpha_config = config_good i.alpha i.alpha_data.len (chunk_len i.alpha_codec_config) l.alpha_bytes l.alpha_config_alone l.config_size.1 in
       let compressed = flag_if_good (is_present i.exif || is_present i.xmp) i.exif_xmp_compressed l.compressed in
       let exif = chunk_good i.exif large 20 10 (λ e. (none e).1) l.exif_empty l.exif_size in
       let xmp = chunk_good i.xmp large 20 10 (λ e. (none e).2) l.xmp_empty l.xmp_size in
-      ((large-metadata, (flag_good true, (flag_good true, (icc, (tmap_icc, (metadata, (gain-data, (gain-config, (main_config, (main_data, (alpha_data, (alpha_config_lem, (compressed, (exif, xmp)))))))))))))), refl)
+      ((large-metadata, (flag_good true, (flag_good true, (icc, (tmap_icc, (metadata, (gain-data, (gain-config, (main_config, (main_data, (alpha_data, (alpha_config, (compressed, (exif, xmp)))))))))))))), refl)
 
   widest_good : header.Good (header_with i (widest i))
   unfolding header_with

@@ -43,9 +43,9 @@ stored_sizes z =
 -- where the chunks lie: the first at a place, each other behind the one before
 unfoldable pub stored_places : ChunkSizes → ℕ → ChunkPlaces
 stored_places z main_config =
-    let alpha_config_lem = main_config + z.main_codec_config in
-    let gain_map_config_lem = alpha_config_lem + z.alpha_codec_config in
-    let icc = gain_map_config_lem + z.gain_map_codec_config in
+    let alpha_config = main_config + z.main_codec_config in
+    let gain_map_config = alpha_config + z.alpha_codec_config in
+    let icc = gain_map_config + z.gain_map_codec_config in
     let tmap_icc = icc + z.icc in
     let gain_map_metadata = tmap_icc + z.tmap_icc in
     let alpha_data = gain_map_metadata + z.gain_map_metadata in
@@ -55,8 +55,8 @@ stored_places z main_config =
     let xmp = exif + z.exif in
     record {
       main_codec_config = main_config;
-      alpha_codec_config = alpha_config_lem;
-      gain_map_codec_config = gain_map_config_lem;
+      alpha_codec_config = alpha_config;
+      gain_map_codec_config = gain_map_config;
       icc = icc;
       tmap_icc = tmap_icc;
       gain_map_metadata = gain_map_metadata;

@@ -52,5 +52,5 @@ eight_bytes s z =
     let l : chunks_start h ≤ length s = omega (arith, header-bytes h, r.room) in
     let w = of_within (stored_sizes h.sizes) (length s) (chunks_start h) l r.fit in
     let g = parts h r.good in
-    let (metadata, (config, (item, (icc, (tmap_icc, (gain_map_metadata, (gain_map_data, (gain_map_config_lem, (main_config, (main_data, others)))))))))) = g.sizes_ok.0 in
+    let (metadata, (config, (item, (icc, (tmap_icc, (gain_map_metadata, (gain_map_data, (gain_map_config, (main_config, (main_data, others)))))))))) = g.sizes_ok.0 in
     omega (arith, w, header_padded h, long_header h, main_data.1)

@@ -1,5 +1,6 @@
 -- What no payload gives, as document 01 lists it ('The record and its order of bits': 'No payload gives: ..'), and that no record that can
--- be written has one of these faults (so none that is read). That the list is complete stands in ListIsExact. Assumes nothing.
+-- be written has one of these faults (so none that is read). That the list is complete stands in
+-- proofs/ListIsExact.antt. Assumes nothing.
 use Rattle.std.specs.Prelude.{◌≡◌, refl, Bool, true, false, ◌&&◌, ◌||◌, ℕ, ◌-◌, ◌^◌, ◌≤◌, ◌<◌, T, eqb, ltb}
 use Rattle.std.proofs.Common.{sym, ap, ◌∙◌, true≢false, lt_of_lt_of_le, arith, ltb→lt, lt→ltb, lit≤, pow_mono, pow_pos, le-ltb}
 use Rattle.std.proofs.lemmas.Bool.{false≢true}
@@ -65,7 +66,7 @@ pub record Lawful (i : MinimizedImage) : Type 0 where
   pub gain_matrix : i.gain_map.matrix_coefficients ≤ 255
   pub gain_subsampling : i.gain_map.chroma.subsampling ≤ 3
   pub gain_format : i.has_gain_map ≡ true → FormatIn i.gain_map.format
-  pub tmap_cicp_lem : TmapIn i.gain_map.tmap_cicp
+  pub tmap_cicp : TmapIn i.gain_map.tmap_cicp
   -- the sizes
   pub icc_size : chunk_len i.icc ≤ 1048576
   pub tmap_icc_size : chunk_len i.gain_map.tmap_icc ≤ 1048576
@@ -209,7 +210,7 @@ lawful_of i c good ac gc =
       gain_matrix = omega (arith, field_below has true 8 8 _ (lit≤ tt) g.gain_map_ok.0.1.1.1.1.0);
       gain_subsampling = omega (arith, field_below has true 2 2 _ (lit≤ tt) g.gain_map_ok.0.1.1.1.1.1.1.0);
       gain_format = ((gain_format_iff has m.format).0 g.gain_map_ok.0.1.1.1.1.1.1.1.1.1.0).1;
-      tmap_cicp_lem = (tmap_iff m.tmap_cicp).0 g.gain_map_ok.0.1.1.1.1.1.1.1.1.1.1.1.1;
+      tmap_cicp = (tmap_iff m.tmap_cicp).0 g.gain_map_ok.0.1.1.1.1.1.1.1.1.1.1.1.1;
       icc_size = more_below (is_present i.icc) c.metadata 20 10 _ (lit≤ tt) g.sizes_ok.0.1.1.1.0;
       tmap_icc_size = more_below (has && is_present m.tmap_icc) c.metadata 20 10 _ (lit≤ tt) g.sizes_ok.0.1.1.1.1.0;
       exif_size = more_below (is_present i.exif) c.metadata 20 10 _ (lit≤ tt) g.sizes_ok.0.1.1.1.1.1.1.1.1.1.1.1.1.1.0;

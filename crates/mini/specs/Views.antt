@@ -319,7 +319,7 @@ abbrev pub SizeParts : Type 0
 SizeParts = Bool × (Bool × (Bool × (ℕ × (ℕ × (ℕ × (ℕ × (ℕ × (ℕ × (ℕ × (ℕ × (ℕ × (Bool × (ℕ × ℕ)))))))))))))
 
 abbrev pub sizes_to : SizeParts → ChunkSizes
-sizes_to (metadata, (config, (item, (icc, (tmap_icc, (gain_map_metadata, (gain_map_data, (gain_map_config_lem, (main_config, (main_data, (alpha_data, (alpha_config_lem, (compressed, (exif, xmp)))))))))))))) =
+sizes_to (metadata, (config, (item, (icc, (tmap_icc, (gain_map_metadata, (gain_map_data, (gain_map_config, (main_config, (main_data, (alpha_data, (alpha_config, (compressed, (exif, xmp)))))))))))))) =
     record {
       large_metadata = metadata;
       large_codec_config = config;
@@ -328,11 +328,11 @@ sizes_to (metadata, (config, (item, (icc, (tmap_icc, (gain_map_metadata, (gain_m
       tmap_icc = tmap_icc;
       gain_map_metadata = gain_map_metadata;
       gain_map_data = gain_map_data;
-      gain_map_codec_config = gain_map_config_lem;
+      gain_map_codec_config = gain_map_config;
       main_codec_config = main_config;
       main_data = main_data;
       alpha_data = alpha_data;
-      alpha_codec_config = alpha_config_lem;
+      alpha_codec_config = alpha_config;
       exif_xmp_compressed = compressed;
       exif = exif;
       xmp = xmp;

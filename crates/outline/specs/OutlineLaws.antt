@@ -122,11 +122,11 @@ record Sized (i : MinimizedImage) (z : ChunkSizes) : Type 0 where
   tmap_icc : chunk_len i.gain_map.tmap_icc ≡ z.tmap_icc
   gain_map_metadata : chunk_len (span_chunk i.has_gain_map i.gain_map.metadata) ≡ z.gain_map_metadata
   gain_map_data : chunk_len (span_chunk i.has_gain_map i.gain_map.«data») ≡ z.gain_map_data
-  gain_map_config_lem : chunk_len i.gain_map.codec_config ≡ z.gain_map_codec_config
+  gain_map_config : chunk_len i.gain_map.codec_config ≡ z.gain_map_codec_config
   main_config : chunk_len (span_chunk true i.main_codec_config) ≡ z.main_codec_config
   main_data : chunk_len (span_chunk true i.main_data) ≡ z.main_data
   alpha_data : chunk_len (span_chunk i.alpha i.alpha_data) ≡ z.alpha_data
-  alpha_config_lem : chunk_len i.alpha_codec_config ≡ z.alpha_codec_config
+  alpha_config : chunk_len i.alpha_codec_config ≡ z.alpha_codec_config
   exif : chunk_len i.exif ≡ z.exif
   xmp : chunk_len i.xmp ≡ z.xmp
 
@@ -142,11 +142,11 @@ sized h at good =
       tmap_icc = ap (λ (x : ChunkSizes). x.tmap_icc) e;
       gain_map_metadata = span_len has _ z.gain_map_metadata g.1.1.1.1.1.0 _;
       gain_map_data = span_len has _ z.gain_map_data g.1.1.1.1.1.1.0 _;
-      gain_map_config_lem = ap (λ (x : ChunkSizes). x.gain_map_codec_config) e;
+      gain_map_config = ap (λ (x : ChunkSizes). x.gain_map_codec_config) e;
       main_config = refl;
       main_data = refl;
       alpha_data = alpha_len h.flags.alpha _ z.alpha_data g.1.1.1.1.1.1.1.1.1.1.0 _;
-      alpha_config_lem = ap (λ (x : ChunkSizes). x.alpha_codec_config) e;
+      alpha_config = ap (λ (x : ChunkSizes). x.alpha_codec_config) e;
       exif = ap (λ (x : ChunkSizes). x.exif) e;
       xmp = ap (λ (x : ChunkSizes). x.xmp) e;
     }
@@ -154,7 +154,7 @@ sized h at good =
 given_chunks_lem : (i : MinimizedImage) (z : ChunkSizes) → Sized i z → map (λ n. chunk_len (chunk_of i n)) given_order ≡ given_sizes z
 unfolding given_order chunk_of given_chunks given_sizes
 given_chunks_lem i z e =
-    simp (e.icc, e.tmap_icc, e.gain_map_metadata, e.gain_map_data, e.gain_map_config_lem, e.main_config, e.main_data, e.alpha_data, e.alpha_config_lem, e.exif, e.xmp)
+    simp (e.icc, e.tmap_icc, e.gain_map_metadata, e.gain_map_data, e.gain_map_config, e.main_config, e.main_data, e.alpha_data, e.alpha_config, e.exif, e.xmp)
 
 -- absent ones passed over, each begins where the one before ends
 unfoldable pub Adjoin : ℕ → List Chunk → Type 0
@@ -185,8 +185,8 @@ stored_chunks h at good =
     let has = h.gain_map.present in
     let z = h.sizes in
     adjoin_next true _ z.main_codec_config _ refl
-    (adjoin_next (nat_lt 0 z.alpha_codec_config) _ z.alpha_codec_config _ e.alpha_config_lem
-    (adjoin_next (nat_lt 0 z.gain_map_codec_config) _ z.gain_map_codec_config _ e.gain_map_config_lem
+    (adjoin_next (nat_lt 0 z.alpha_codec_config) _ z.alpha_codec_config _ e.alpha_config
+    (adjoin_next (nat_lt 0 z.gain_map_codec_config) _ z.gain_map_codec_config _ e.gain_map_config
     (adjoin_next f.icc _ z.icc _ e.icc
     (adjoin_next h.gain_map.tmap_icc _ z.tmap_icc _ e.tmap_icc
     (adjoin_span has _ z.gain_map_metadata _ e.gain_map_metadata

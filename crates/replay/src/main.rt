@@ -117,7 +117,7 @@ fn read_full(file: &mut File, buf: &mut [u8]) -> io::Result<usize>
     ensures { IfOk result (λ n. n ≤ length buf.new) }
 {
     let mut n = 0;
-    for _ in 0..u64::MAX {
+    while n < buf.len() {
         let more = file.read(&mut buf[n..])?;
         if more == 0 {
             break;
@@ -129,9 +129,13 @@ fn read_full(file: &mut File, buf: &mut [u8]) -> io::Result<usize>
 
 fn replay_file(rt: &HostRuntime, name: &[u8], path: &str, kind: Kind) -> io::Result<()> {
     let mut text = [0u8; 262144];
-    let mut file = fs::open(rt, path)?;
-    let n = read_full(&mut file, &mut text)?;
-    print(rt, name, replay(kind, &text[..n]))
+    match fs::open(rt, path) {
+        Ok(mut file) => {
+            let n = read_full(&mut file, &mut text)?;
+            print(rt, name, replay(kind, &text[..n]))
+        }
+        Err(e) => eprintln!(rt; "{path}: {e}"),
+    }
 }
 
 fn main(rt: HostRuntime) -> io::Result<()> {

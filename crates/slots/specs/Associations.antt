@@ -18,7 +18,7 @@ abbrev pub optional : ℕ → ℕ
 optional slot = slot
 
 -- The Rust adds 11 to 16 only where `hdr` is set. A record without it has no HDR body, so that these slots are unused and dropped
--- (AssociationLaws.antt, row-without-hdr).
+-- (AssociationLaws.antt, row_without_hdr).
 unfoldable pub main_row : List ℕ
 main_row =
     essential 1

@@ -10,7 +10,7 @@ use Rattle.mini.specs.declared.MinimizedImage.{MinimizedImage}
 pub record Bodies (h : MiniHdrBoxes) : Type 0 where
   pub clli_length : length h.clli ≡ 4
   pub mdcv_length : length h.mdcv ≡ 24
-  pub cclv_length_lem : length h.cclv ≡ 37
+  pub cclv_length : length h.cclv ≡ 37
   pub amve_length : length h.amve ≡ 8
   pub reve_length : length h.reve ≡ 20
   pub ndwt_length : length h.ndwt ≡ 4
@@ -20,7 +20,7 @@ bodies_of h b =
     record {
       clli_length = b.clli_body.1.0;
       mdcv_length = b.mdcv_body.1.0;
-      cclv_length_lem = b.cclv_body.1.0;
+      cclv_length = b.cclv_body.1.0;
       amve_length = b.amve_body.1.0;
       reve_length = b.reve_body.1.0;
       ndwt_length = b.ndwt_body.1.0;

@@ -87,7 +87,7 @@ unfolding hdr_slots slots_bytes
 length_hdr h b =
     let a = length_only h.has_clli (clli h.clli) clli_len (length-clli h.clli b.clli_length) in
     let m = length_only h.has_mdcv (mdcv h.mdcv) mdcv_len (length-mdcv h.mdcv b.mdcv_length) in
-    let c = length_only h.has_cclv (cclv h.cclv) (cclv_len h.cclv) (length-cclv h.cclv b.cclv_length_lem) in
+    let c = length_only h.has_cclv (cclv h.cclv) (cclv_len h.cclv) (length-cclv h.cclv b.cclv_length) in
     let v = length_only h.has_amve (amve h.amve) amve_len (length-amve h.amve b.amve_length) in
     let r = length_only h.has_reve (reve h.reve) reve_len (length-reve h.reve b.reve_length) in
     let n = length_only h.has_ndwt (ndwt h.ndwt) ndwt_len (length-ndwt h.ndwt b.ndwt_length) in
@@ -104,7 +104,7 @@ module _ (i : MinimizedImage) (s : List ℕ) (o : Sound i s) where
   length_alpha : length (slots_bytes (alpha_slots i s)) ≡ sum (alpha_lens i)
   unfolding alpha_slots slots_bytes
   length_alpha =
-      let q = config_placed i.alpha_codec_config i.main_codec_config s o.alpha_config_lem o.main_config in
+      let q = config_placed i.alpha_codec_config i.main_codec_config s o.alpha_config o.main_config in
       let c = length_config i.explicit_codec_types (alpha_config i) s q in
       simp (length-append, c, length-aux_c, length-pixi)
 
@@ -115,7 +115,7 @@ module _ (i : MinimizedImage) (s : List ℕ) (o : Sound i s) where
   length_gain_map : length (slots_bytes (gain_map_slots i s)) ≡ sum (gain_map_lens i)
   unfolding gain_map_slots slots_bytes
   length_gain_map =
-      let q = config_placed i.gain_map.codec_config i.main_codec_config s o.gain_map_config_lem o.main_config in
+      let q = config_placed i.gain_map.codec_config i.main_codec_config s o.gain_map_config o.main_config in
       let c = length_config i.explicit_codec_types (gain_map_config i) s q in
       simp (length-append, c, length-ispe, length-pixi, length-nclx)
 

@@ -34,8 +34,8 @@ pub record Bounded (i : MinimizedImage) : Type 0 where
 pub record Sound (i : MinimizedImage) (s : List ℕ) : Type 0 where
   pub bounded : Bounded i
   pub main_config : SpanPlaced i.main_codec_config s
-  pub alpha_config_lem : ChunkPlaced i.alpha_codec_config s
-  pub gain_map_config_lem : ChunkPlaced i.gain_map.codec_config s
+  pub alpha_config : ChunkPlaced i.alpha_codec_config s
+  pub gain_map_config : ChunkPlaced i.gain_map.codec_config s
   pub icc_placed : ChunkPlaced i.icc s
   pub tmap_icc_placed : ChunkPlaced i.gain_map.tmap_icc s
 
@@ -88,8 +88,8 @@ sound i s p w =
     record {
       bounded = bounded_of i l;
       main_config = leb→le _ n a.0;
-      alpha_config_lem = placed_of i.alpha_codec_config s b.0;
-      gain_map_config_lem = g.0;
+      alpha_config = placed_of i.alpha_codec_config s b.0;
+      gain_map_config = g.0;
       icc_placed = placed_of i.icc s d.0;
       tmap_icc_placed = g.1;
     }

@@ -11,7 +11,7 @@ unfolding alpha_slots slots_bytes
 put_config_slot-a-requires c =
     let o = c.requires.1 in
     let e = ap (λ (x : Span). x.len) c.config_or-config.ensures in
-    (omega arith, rw c.config_or-config.ensures (config_placed c.args.image.alpha_codec_config c.args.image.main_codec_config c.args.source.now o.alpha_config_lem o.main_config, config_most c.args.image.alpha_codec_config c.args.image.main_codec_config o.bounded.alpha_config_size o.bounded.main_config_size))
+    (omega arith, rw c.config_or-config.ensures (config_placed c.args.image.alpha_codec_config c.args.image.main_codec_config c.args.source.now o.alpha_config o.main_config, config_most c.args.image.alpha_codec_config c.args.image.main_codec_config o.bounded.alpha_config_size o.bounded.main_config_size))
 
 pub put_auxc-b-requires : goal.put_auxc-b-requires
 unfolding alpha_slots slots_bytes
