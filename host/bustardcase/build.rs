@@ -8,22 +8,25 @@ use std::path::{Path, PathBuf};
 use std::process::{Command, Stdio, exit};
 use std::time::SystemTime;
 
-/// The crates that are made to libraries. The outline is one of its own (docs/DECISIONS.md).
-const LIBRARIES: [&str; 2] = ["exports", "exports_outline"];
+/// The libraries, and the crate of each. The outline is one of its own (docs/DECISIONS.md).
+const LIBRARIES: [(&str, &str); 2] = [
+    ("exports", "exports_c"),
+    ("exports_outline", "exports_outline"),
+];
 
 fn main() {
     let manifest = std::env::var("CARGO_MANIFEST_DIR").expect("CARGO_MANIFEST_DIR");
     let root = PathBuf::from(manifest).join("../..");
-    if let Err(message) = bring_up_to_date(&root) {
+    let sources = bring_up_to_date(&root).unwrap_or_else(|message| {
         println!("cargo::error={message}");
         exit(1);
-    }
-    for watched in ["crates", "crates.txt"] {
-        println!("cargo::rerun-if-changed={}", root.join(watched).display());
+    });
+    for watched in sources {
+        println!("cargo::rerun-if-changed={}", watched.display());
     }
     println!("cargo::rerun-if-changed=build.rs");
     println!("cargo::rustc-link-search=native={}", made(&root).display());
-    for name in LIBRARIES {
+    for (name, _) in LIBRARIES {
         println!("cargo::rerun-if-changed={}", library(&root, name).display());
         println!("cargo::rustc-link-lib=static={name}");
     }
@@ -37,79 +40,87 @@ fn library(root: &Path, name: &str) -> PathBuf {
     made(root).join(format!("lib{name}.a"))
 }
 
-/// Stands beside a library while `rt` writes it: one that was ended meanwhile is made again.
+/// Stands beside a library while it is written: one that was ended meanwhile is made again.
 fn unfinished(root: &Path, name: &str) -> PathBuf {
     made(root).join(format!("{name}.unfinished"))
 }
 
-fn bring_up_to_date(root: &Path) -> Result<(), String> {
-    let newest = newest_source(root).map_err(|e| format!("crates/ cannot be read: {e}"))?;
-    let is_current = |name: &&str| {
+/// Makes what is not up to date, and returns what the libraries are made from.
+fn bring_up_to_date(root: &Path) -> Result<Vec<PathBuf>, String> {
+    let unread = |e| format!("crates/ cannot be read: {e}");
+    let sources = sources(root).map_err(unread)?;
+    let newest = newest(&sources).map_err(unread)?;
+    for (name, krate) in LIBRARIES {
         let time = fs::metadata(library(root, name)).and_then(|m| m.modified());
-        time.is_ok_and(|time| time >= newest) && !unfinished(root, name).exists()
-    };
-    if LIBRARIES.iter().all(is_current) {
-        return Ok(());
-    }
-    // Here crates are proved side by side, in `rt staticlib` one after another.
-    rt(root, &[&["check"], &LIBRARIES[..]].concat())?;
-    for name in LIBRARIES {
-        if !is_current(&name) {
-            make(root, name, newest)?;
+        if !time.is_ok_and(|time| time >= newest) || unfinished(root, name).exists() {
+            make(root, name, krate, newest)?;
         }
     }
-    Ok(())
+    Ok(sources)
+}
+
+/// The list of the crates and the folders of their files. What `rt` keeps lies beside these, in `out`.
+fn sources(root: &Path) -> io::Result<Vec<PathBuf>> {
+    let mut sources = vec![root.join("crates.txt")];
+    for entry in fs::read_dir(root.join("crates"))? {
+        let folder = entry?.path();
+        let parts = ["src", "specs", "proofs"].map(|part| folder.join(part));
+        sources.extend(parts.into_iter().filter(|part| part.is_dir()));
+    }
+    Ok(sources)
 }
 
 /// When the newest of the files was changed that the libraries are proved and made from.
-fn newest_source(root: &Path) -> io::Result<SystemTime> {
-    let mut newest = fs::metadata(root.join("crates.txt"))?.modified()?;
-    let mut folders = vec![root.join("crates")];
-    while let Some(folder) = folders.pop() {
-        for entry in fs::read_dir(folder)? {
-            let path = entry?.path();
-            if path.is_dir() {
-                folders.push(path);
-            } else if path.extension().is_some_and(|e| e == "rt" || e == "antt") {
-                newest = newest.max(fs::metadata(&path)?.modified()?);
+fn newest(sources: &[PathBuf]) -> io::Result<SystemTime> {
+    let mut newest = SystemTime::UNIX_EPOCH;
+    let mut paths = sources.to_vec();
+    while let Some(path) = paths.pop() {
+        if path.is_dir() {
+            for entry in fs::read_dir(path)? {
+                paths.push(entry?.path());
             }
+        } else if path.extension().is_some_and(|e| e == "rt" || e == "antt")
+            || path.ends_with("crates.txt")
+        {
+            newest = newest.max(fs::metadata(&path)?.modified()?);
         }
     }
     Ok(newest)
 }
 
-fn make(root: &Path, name: &str, newest: SystemTime) -> Result<(), String> {
+fn make(root: &Path, name: &str, krate: &str, newest: SystemTime) -> Result<(), String> {
     let cannot = |path: PathBuf, e| format!("{}: {e}", path.display());
+    let made_by_rt = rt_lib(root, krate)?;
     let mark = unfinished(root, name);
     fs::create_dir_all(made(root)).map_err(|e| cannot(made(root), e))?;
     fs::write(&mark, "").map_err(|e| cannot(mark.clone(), e))?;
-    rt(root, &["staticlib", name])?;
     // The time of the newest source says all there is to say. The present time would be later than
     // the start of this script, and cargo would run it a second time and link everything again.
-    File::options()
-        .append(true)
-        .open(library(root, name))
+    fs::copy(made_by_rt, library(root, name))
+        .and_then(|_| File::options().append(true).open(library(root, name)))
         .and_then(|file| file.set_modified(newest))
         .map_err(|e| cannot(library(root, name), e))?;
     fs::remove_file(&mark).map_err(|e| cannot(mark, e))
 }
 
-/// What `rt` says goes to the standard error: cargo reads this script's standard output.
-fn rt(root: &Path, words: &[&str]) -> Result<(), String> {
-    let line = format!("rt {}", words.join(" "));
+/// Has `rt` prove a crate and those below it, one after another, and make its library. What it says goes to
+/// the standard error: cargo reads this script's standard output.
+fn rt_lib(root: &Path, krate: &str) -> Result<PathBuf, String> {
+    let folder = root.join("crates").join(krate);
     let run = Command::new("rt")
-        .args(words)
-        .current_dir(root)
+        .arg("lib")
+        .current_dir(&folder)
         .stdin(Stdio::null())
         .stdout(io::stderr())
         .status();
+    let line = format!("'rt lib' in crates/{krate}");
     match run {
-        Ok(status) if status.success() => Ok(()),
-        Ok(status) => Err(format!("'{line}' ended with {status}")),
+        Ok(status) if status.success() => Ok(folder.join(format!("out/lib{krate}.a"))),
+        Ok(status) => Err(format!("{line} ended with {status}")),
         Err(e) if e.kind() == io::ErrorKind::NotFound => Err(
             "the library has to be made, and 'rt', the Rattle toolchain, is not found in PATH"
                 .to_string(),
         ),
-        Err(e) => Err(format!("'{line}' cannot be run: {e}")),
+        Err(e) => Err(format!("{line} cannot be run: {e}")),
     }
 }

@@ -20,9 +20,11 @@ pub struct Ran {
 }
 
 impl Folder {
-    /// An empty folder of that name.
+    /// An empty folder of that name. It lies outside the repository, where rt takes no links, and no sources but
+    /// those of its crates.
     pub fn new(name: &str) -> Self {
-        let path = PathBuf::from(env!("CARGO_TARGET_TMPDIR")).join(name);
+        let name = format!("bustardcase-{}-{name}", std::process::id());
+        let path = std::env::temp_dir().join(name);
         let _ = fs::remove_dir_all(&path);
         fs::create_dir_all(&path).expect("a folder for the test");
         Folder(path)
@@ -59,6 +61,12 @@ impl Folder {
         let mut command = Command::new(TOOL);
         command.args(words).current_dir(&self.0);
         run(command, input)
+    }
+}
+
+impl Drop for Folder {
+    fn drop(&mut self) {
+        let _ = fs::remove_dir_all(&self.0);
     }
 }
 

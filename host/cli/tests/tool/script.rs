@@ -62,7 +62,7 @@ struct Checkout {
     fake: PathBuf,
 }
 
-/// All that the script may call, beside rt, cargo, rustc and cc.
+/// All that the script may call, beside rt, cargo, rustc, cc and cp.
 const PROGRAMS: [&str; 20] = [
     "awk", "cat", "chmod", "dd", "dirname", "env", "find", "flock", "head", "mkdir", "mkfifo",
     "mv", "readlink", "rm", "sed", "setsid", "sh", "sleep", "touch", "uname",
@@ -70,19 +70,19 @@ const PROGRAMS: [&str; 20] = [
 
 const FIRST_RUN: &str = "\
 bustardcase: proving the library; from nothing it takes some minutes ...
-bustardcase: 1 of 4 proved: octets
-bustardcase: 2 of 4 proved: boxes
-bustardcase: 3 of 4 proved: exports
-bustardcase: 4 of 4 proved: exports_outline
+bustardcase: 1 of 5 proved: octets
+bustardcase: 2 of 5 proved: boxes
+bustardcase: 3 of 5 proved: exports
+bustardcase: 4 of 5 proved: exports_c
+bustardcase: 5 of 5 proved: exports_outline
 bustardcase: making libexports.a ...
 bustardcase: making libexports_outline.a ...
 bustardcase: building the tool ...
 ";
 
 const ALL_STEPS: &str = "\
-rt check exports exports_outline
-rt staticlib exports
-rt staticlib exports_outline
+rt lib in exports_c
+rt lib in exports_outline
 cargo build
 ";
 
@@ -137,9 +137,10 @@ impl Checkout {
 
     fn fill(&self) {
         let text = "# A comment.\noctets:\nboxes: octets # A comment.\nexports: octets boxes io\n\
-                    vectors: exports\nexports_outline: exports octets\n";
+                    vectors: exports\nexports_c staticlib: boxes exports\n\
+                    exports_outline staticlib: exports octets\n";
         self.put("crates.txt", text);
-        for name in ["octets", "boxes", "exports", "exports_outline"] {
+        for name in ["octets", "boxes", "exports", "exports_c", "exports_outline"] {
             self.put(&format!("crates/{name}/src/lib.rt"), "");
         }
         self.put("crates/octets/must-fail/one.edit", "");
@@ -164,6 +165,7 @@ impl Checkout {
         self.program("cargo", include_str!("script/cargo"));
         self.program("rustc", include_str!("script/cargo"));
         self.program("cc", "#!/bin/sh\n");
+        self.program("cp", include_str!("script/cp"));
     }
 
     fn script(&self) -> PathBuf {
@@ -375,6 +377,41 @@ fn the_first_run_counts_crates_and_the_next_says_nothing() {
 }
 
 #[test]
+fn what_was_proved_before_counts_with_what_is_made_from_it() {
+    // What rt says of exports_c and what that is made from, and all that is counted.
+    let cases = [
+        (
+            "prove exports; prove exports_c",
+            "3 exports, 4 exports_c, 5 exports_outline",
+        ),
+        (
+            "prove boxes; prove boxes; prove exports",
+            "2 boxes, 3 exports, 4 exports_outline",
+        ),
+        ("prove exports_c", "4 exports_c, 5 exports_outline"),
+        ("prove elsewhere; prove boxes", "2 boxes, 4 exports_outline"),
+        (
+            "echo logic=proved; prove octets; echo logic=proved",
+            "1 octets, 4 exports_outline",
+        ),
+        ("echo rt: chose --jobs 2 for exports", "4 exports_outline"),
+    ];
+    for (i, (said, counted)) in cases.into_iter().enumerate() {
+        let checkout = Checkout::new(&format!("counted-{i}"));
+        let made = "echo whole >out/libexports_c.a; exit";
+        checkout.at("at-check", &format!("{said}\n{made}\n"));
+        let mut lines: Vec<&str> = FIRST_RUN.split_inclusive('\n').collect();
+        let counted = counted.split(", ").map(|line| {
+            let (count, name) = line.split_once(' ').expect("a count");
+            format!("bustardcase: {count} of 5 proved: {name}\n")
+        });
+        let counted: String = counted.collect();
+        lines.splice(1..6, [counted.as_str()]);
+        checkout.assert_runs(&lines.concat());
+    }
+}
+
+#[test]
 fn the_status_is_the_tools_own() {
     let checkout = Checkout::new("status");
     checkout.assert_runs(FIRST_RUN);
@@ -440,7 +477,7 @@ fn a_source_changed_while_it_is_proved_counts_as_changed() {
     let checkout = Checkout::new("meanwhile");
     checkout.at(
         "at-between",
-        "sleep 0.05; touch crates/octets/src/lib.rt; sleep 0.05\n",
+        "sleep 0.05; touch ../octets/src/lib.rt; sleep 0.05\n",
     );
     checkout.assert_runs(FIRST_RUN);
     checkout.no_more_at("at-between");
@@ -524,20 +561,22 @@ fn copied_out_of_the_checkout() {
 
 #[test]
 fn what_rt_and_cargo_say_is_printed_where_they_fail() {
-    let not_proved = "the library is not proved ('rt check' ended with status";
+    let not_made = "libexports.a is not made ('rt lib' in crates/exports_c ended with status";
+    let no_outline = "libexports_outline.a is not made ('rt lib' in crates/exports_outline";
     let cases = [
-        ("at-between", 1, format!("{not_proved} 1)")),
-        ("at-check", 2, format!("{not_proved} 2)")),
-        ("at-between", 3, format!("{not_proved} 3)")),
+        ("at-between", 1, format!("{not_made} 1)")),
+        ("at-check", 2, format!("{not_made} 2)")),
+        ("at-between", 3, format!("{not_made} 3)")),
+        ("at-lib-exports_c", 1, format!("{not_made} 1)")),
         (
-            "at-staticlib-exports",
-            1,
-            "libexports.a is not made ('rt staticlib' ended with status 1)".into(),
+            "at-lib-exports_outline",
+            3,
+            format!("{no_outline} ended with status 3)"),
         ),
         (
-            "at-staticlib-exports_outline",
-            3,
-            "libexports_outline.a is not made ('rt staticlib' ended with status 3)".into(),
+            "at-cp-exports",
+            1,
+            "libexports.a is not made ('cp' ended with status 1)".into(),
         ),
         (
             "at-cargo",
@@ -648,8 +687,9 @@ fn variables_of_the_environment_do_not_count() {
         "RUSTC_WRAPPER",
         "RUSTC_WORKSPACE_WRAPPER",
         "RUSTFLAGS",
-        "RT_JOBS",
-        "RT_CUT",
+        "RT_ALLOW_C",
+        "RT_BACKEND",
+        "RT_SECONDS",
         "CDPATH",
     ] {
         command.env(name, "elsewhere\nCARGO_X=y");
@@ -657,7 +697,7 @@ fn variables_of_the_environment_do_not_count() {
     command.env("CARGO_BUILD_JOBS", "1");
     checkout.at(
         "at-check",
-        "echo \"${RT_JOBS-none} ${RT_CUT-none}\" >\"$FAKE/jobs\"\n",
+        "echo \"${RT_ALLOW_C-none} ${RT_BACKEND-none} ${RT_SECONDS-none}\" >\"$FAKE/rt\"\n",
     );
     let ran = run(command, b"");
     assert_eq!((ran.status, ran.err.as_str()), (0, FIRST_RUN));
@@ -668,14 +708,13 @@ fn variables_of_the_environment_do_not_count() {
     lines.sort();
     let home = format!("CARGO_HOME={}", home.display());
     assert_eq!(lines, ["CARGO_BUILD_JOBS=1", &home, "PWD=/"]);
-    let jobs = || fs::read_to_string(checkout.fake.join("jobs")).expect("notes");
-    assert_eq!(jobs(), "4 none\n");
+    let of_rt = fs::read_to_string(checkout.fake.join("rt")).expect("notes");
+    assert_eq!(of_rt, "none none none\n");
 
     touch(&checkout.root.join("crates.txt"), SystemTime::now());
     let mut command = checkout.command();
-    command.env("RT_JOBS", "3").env("CARGO_BUILD_JOBS", "many");
+    command.env("CARGO_BUILD_JOBS", "many");
     assert_eq!(run(command, b"").status, 0);
-    assert_eq!(jobs(), "3 none\n");
     let environment = fs::read_to_string(checkout.fake.join("environment")).expect("notes");
     assert!(!environment.contains("JOBS"));
 }
@@ -714,8 +753,9 @@ fn an_interrupt_ends_everything_and_leaves_nothing() {
     let cases = [
         ("at-check", "TERM", 143),
         ("at-between", "INT", 130),
-        ("at-staticlib-exports", "HUP", 129),
-        ("at-staticlib-exports_outline", "INT", 130),
+        ("at-lib-exports_c", "HUP", 129),
+        ("at-lib-exports_outline", "INT", 130),
+        ("at-cp-exports_outline", "HUP", 129),
         ("at-cargo", "TERM", 143),
         ("at-check", "QUIT", 131),
     ];
@@ -758,20 +798,20 @@ fn a_tool_that_is_half_built_is_not_used() {
 #[test]
 fn one_that_was_killed_leaves_nothing_that_is_used() {
     let checkout = Checkout::new("killed");
-    checkout.at("at-staticlib-exports", &format!("{LINGER}exit 1\n"));
+    checkout.at("at-cp-exports_outline", &format!("{LINGER}exit 1\n"));
     let mut first = checkout.start("first");
     let process = checkout.reached();
     first.child.kill().expect("it is killed");
     assert_eq!(first.ends().0.signal(), Some(9));
-    // rt still runs, and has the lock.
+    // cp still runs, and has the lock.
     assert!(!is_gone(process));
     let second = checkout.start("second");
     second.waits();
     assert_eq!(
         checkout.notes(),
-        "rt check exports exports_outline\nrt staticlib exports\n"
+        "rt lib in exports_c\nrt lib in exports_outline\n"
     );
-    checkout.no_more_at("at-staticlib-exports");
+    checkout.no_more_at("at-cp-exports_outline");
     checkout.go_on();
     let (ended, said) = second.ends();
     assert_eq!(
