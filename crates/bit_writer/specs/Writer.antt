@@ -1,7 +1,8 @@
 -- Writing bits, high bit first, from a byte of an output on (ISO/IEC 23008-12 Amd 2, Annex O.3.2; document 01: multi-byte fields are
 -- big-endian, bits run from the high bit down). Eight bits make a byte, which is stored; fewer wait for more. A byte past the end of the
 -- output is not stored, and the place counts as a usize does, so that writing is total and room is asked for once, at the entry.
-use Rattle.std.specs.Prelude.{◌≡◌, ℕ, ◌+◌, ◌%◌, ◌^◌, Bool, true, ◌&&◌, List, [], ◌∷◌, ◌++◌, ◌==◌, slice_set}
+use Rattle.std.specs.Prelude.{◌≡◌, ℕ, ◌+◌, ◌%◌, ◌^◌, Bool, ◌&&◌, List, [], ◌∷◌, ◌++◌, ◌==◌, slice_set}
+use Rattle.std.specs.List.{list_all}
 use Rattle.bits.specs.Bit.{val, bits_n}
 use Rattle.bits.specs.Format.{Format}
 use Rattle.bit_writer.specs.declared.BitWriter.{BitWriter}
@@ -28,7 +29,7 @@ unfoldable pub waiting : BitWriter → List Bool
 waiting w = bits_n (w.at.1 % 8) w.bits
 
 abbrev pub fits : BitWriter → Bool
-fits w = w.fault == 0
+fits w = w.fits
 
 -- from o and w on, the bits l were written, which left o' and w'
 pub record Fed (o : List ℕ) (w : BitWriter) (l : List Bool) (o' : List ℕ) (w' : BitWriter) : Type 0 where
@@ -47,5 +48,4 @@ pub record Puts {A : Type 0} (p : Format A) (o : List ℕ) (w : BitWriter) (a : 
 
 -- an absent body is zeros
 abbrev pub all_zero : List ℕ → Bool
-all_zero [] = true
-all_zero (x ∷ l) = x == 0 && all_zero l
+all_zero l = list_all (λ x. x == 0) l

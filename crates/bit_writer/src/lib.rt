@@ -1,5 +1,5 @@
-// A writer of bits, high bit first: the state goes in and comes back by value. A byte past the end of the output is not
-// stored. A value that its field cannot hold leaves a fault, which stays.
+// A writer of bits, high bit first: by a rule of the project the state goes in and comes back by value, so the output is lent to each
+// call. A byte past the end of the output is not stored. Once a value does not fit its field, the state says so.
 #![tactic(auto)]
 
 ghost use Rattle.std.specs.Prelude.{◌≡◌, ◌+◌, ◌-◌, ◌%◌, ◌^◌, ◌≤◌, true, ◌&&◌, [], ◌++◌, length, take, drop, slice_set};
@@ -7,15 +7,15 @@ ghost use Rattle.bits.specs.Bit.{bits_n, bits_of};
 ghost use Rattle.bits.specs.Format.{field, flag, field_if, flag_if, minus1_if, offset, sized, bytes_for};
 ghost use Rattle.bit_writer.specs.Writer.{place, waiting, fits, Fed, Tested, Puts, all_zero};
 
-use bits::BitPos;
+use bits::{BitPos, Widths};
 
-// A writer's state: the bit that comes next, the bits since the last whole byte as the low bits of a number, and whether a
-// value did not fit its field (0: none).
+// A writer's state: the bit that comes next, the bits since the last whole byte as the low bits of a number, and whether every
+// value so far fits its field.
 #[derive(Clone, Copy)]
 pub struct BitWriter {
     pub at: BitPos,
     pub bits: usize,
-    pub fault: usize,
+    pub fits: bool,
 }
 
 // A byte at its place. Past the end nothing is stored.
@@ -25,12 +25,6 @@ fn store(out: &mut [u8], at: usize, x: u8)
     if at < out.len() {
         out[at] = x;
     }
-}
-
-fn wide(x: u8) -> usize
-    ensures { result ≡ x }
-{
-    x as usize
 }
 
 // 2 ^ n.
@@ -52,52 +46,34 @@ fn join(high: usize, j: u32, n: u32, low: usize) -> usize
     high % top * size + low % size
 }
 
-// x - k, and 0 where k is the larger.
-fn less(x: usize, k: usize) -> usize
-    ensures { result ≡ x - k }
-{
-    if x < k { 0 } else { x - k }
-}
-
 // Whether all bytes from a place on are zero.
 pub fn zeros(s: &[u8], from: usize) -> bool
     ensures { result ≡ all_zero (drop from s.now) }
 {
-    let mut i = from;
-    while i < s.len() {
-        if s[i] != 0 {
-            return false;
-        }
-        i += 1;
-    }
-    true
+    s.iter().skip(from).all(|&x| x == 0)
 }
 
 impl BitWriter {
     // At the first bit of a byte.
+    #[tactic(auto, unfolding(crate::specs::Writer::waiting))]
     pub fn new(at: usize) -> Self
         ensures { (place result ≡ at) × (waiting result ≡ []) × (fits result ≡ true) }
     {
         Self {
             at: BitPos(at, 0),
             bits: 0,
-            fault: 0,
+            fits: true,
         }
     }
 
-    // The state after a test: a fault where it fails.
+    // The state after a test.
+    #[tactic(auto, unfolding(crate::specs::Writer::waiting))]
     pub fn test(self, ok: bool) -> BitWriter
         ensures { Tested self ok result }
     {
-        if ok {
-            self
-        } else {
-            let at = self.at;
-            BitWriter {
-                at,
-                bits: self.bits,
-                fault: 1,
-            }
+        BitWriter {
+            fits: self.fits & ok,
+            ..self
         }
     }
 
@@ -111,15 +87,16 @@ impl BitWriter {
         let all = join(self.bits, j, n, v);
         let mut k = self.at.0;
         let mut m = j + n;
+        // No index: so many bits are left.
         while 8 <= m {
             m -= 8;
             store(out, k, ((all >> m) % 256) as u8);
-            k = std::num::wrapping_add_usize(k, 1);
+            k = k.wrapping_add(1);
         }
         BitWriter {
             at: BitPos(k, m as usize),
             bits: all,
-            fault: self.fault,
+            fits: self.fits,
         }
     }
 
@@ -163,15 +140,12 @@ impl BitWriter {
         out: &mut [u8],
         on: bool,
         large: bool,
-        long: u32,
-        short: u32,
+        widths: Widths,
         v: usize,
     ) -> BitWriter
-        requires { (long ≤ 28) × (short ≤ 28) }
-        ensures { Puts (field_if on (sized large long short)) out.old self v out.new result }
+        ensures { Puts (field_if on (sized large widths.long widths.short)) out.old self v out.new result }
     {
-        let n = bits::width(large, long, short);
-        self.put_if(out, on, n, v)
+        self.put_if(out, on, widths.of(large), v)
     }
 
     // A number stored less k.
@@ -179,7 +153,7 @@ impl BitWriter {
         requires { n ≤ 32 }
         ensures { Puts (offset k n) out.old self v out.new result }
     {
-        let w = self.put(out, n, less(v, k));
+        let w = self.put(out, n, v.saturating_sub(k));
         w.test(k <= v)
     }
 
@@ -189,16 +163,13 @@ impl BitWriter {
         out: &mut [u8],
         on: bool,
         large: bool,
-        long: u32,
-        short: u32,
+        widths: Widths,
         v: usize,
     ) -> BitWriter
-        requires { (long ≤ 28) × (short ≤ 28) }
-        ensures { Puts (minus1_if on (sized large long short)) out.old self v out.new result }
+        ensures { Puts (minus1_if on (sized large widths.long widths.short)) out.old self v out.new result }
     {
         if on {
-            let n = bits::width(large, long, short);
-            self.put_offset(out, 1, n, v)
+            self.put_offset(out, 1, widths.of(large), v)
         } else {
             self.test(v == 0)
         }
@@ -211,17 +182,14 @@ impl BitWriter {
         ensures fits_as_before { fits result ≡ fits self }
     {
         let mut w = self;
-        let mut i = 0;
-        while i < n {
-            let x = wide(s[i]);
-            w = w.feed(out, 8, x);
-            i += 1;
+        for &x in &s[..n] {
+            w = w.feed(out, 8, x as usize);
         }
         w
     }
 
     // All bytes of a slice where the flag says so; else no bits, for zeros.
-    fn body_if(self, out: &mut [u8], on: bool, s: &[u8], n: usize) -> BitWriter
+    fn slice_if(self, out: &mut [u8], on: bool, s: &[u8], n: usize) -> BitWriter
         requires { n ≡ length s.now }
         ensures { Puts (bytes_for on n) out.old self s.now out.new result }
     {
@@ -232,29 +200,11 @@ impl BitWriter {
         }
     }
 
-    // Bodies of the sizes that the HDR boxes have, where the flag says so; else no bits, for zeros.
-    pub fn body4_if(self, out: &mut [u8], on: bool, body: [u8; 4]) -> BitWriter
-        ensures { Puts (bytes_for on 4) out.old self body out.new result }
+    // A body of N bytes where the flag says so; else no bits, for zeros.
+    pub fn body_if<const N: usize>(self, out: &mut [u8], on: bool, body: &[u8; N]) -> BitWriter
+        ensures { Puts (bytes_for on N) out.old self body.now out.new result }
     {
-        self.body_if(out, on, &body, 4)
-    }
-
-    pub fn body8_if(self, out: &mut [u8], on: bool, body: [u8; 8]) -> BitWriter
-        ensures { Puts (bytes_for on 8) out.old self body out.new result }
-    {
-        self.body_if(out, on, &body, 8)
-    }
-
-    pub fn body20_if(self, out: &mut [u8], on: bool, body: [u8; 20]) -> BitWriter
-        ensures { Puts (bytes_for on 20) out.old self body out.new result }
-    {
-        self.body_if(out, on, &body, 20)
-    }
-
-    pub fn body24_if(self, out: &mut [u8], on: bool, body: [u8; 24]) -> BitWriter
-        ensures { Puts (bytes_for on 24) out.old self body out.new result }
-    {
-        self.body_if(out, on, &body, 24)
+        self.slice_if(out, on, body, N)
     }
 
     // Zero bits up to a byte boundary.

@@ -4,3 +4,4 @@ pub mod Near
 pub mod Run
 pub mod State
 pub mod Window
+pub mod ReadError

@@ -4,7 +4,7 @@ use Rattle.std.specs.Prelude.{◌≡◌, Bool, true, false, List, ℕ, ◌+◌, 
 use Rattle.std.proofs.Common.{sym, ap₂, ◌∙◌, true≢false, eq-eqb, ne_eqb}
 use Rattle.std.proofs.Math.Path.{ap}
 use Rattle.std.proofs.lemmas.Bool.{false≢true}
-use Rattle.bits.specs.State.{State, is_reading_refusal, ahead, ahead_if, part, part_if, bytes_if, read_bits, read_bytes, test}
+use Rattle.bits.specs.State.{State, is_reading_refusal, ahead, ahead_if, part, part_if, bytes_if, read_bits, read_bytes, refuse_if, test}
 use Rattle.bits.specs.Format.{Format, field, bytes, flag, minus1, offset, choose, view, ensure, exactly, ◌>>=◌, ◌>>◌}
 use Rattle.bits.specs.declared.Bits.{Bits}
 
@@ -31,6 +31,16 @@ pub ahead_short : (s : List ℕ) (b : State) (n : ℕ) → b.refusal ≡ 0 → l
     → ahead s b n ≡ (false, record { at = b.at; refusal = 5 })
 unfolding ahead
 ahead_short s b n h u = ap₂ (λ (t u : Bool). ahead_if t u b n) (eq-eqb b.refusal 0 h) u
+
+-- ---- the three answers of a test
+pub test_passes : (b : State) (t : Bool) (n : ℕ) → b.refusal ≡ 0 → t ≡ true → test b t n ≡ b
+test_passes b t n h u = ap₂ (λ (s t : Bool). refuse_if s t b n) (eq-eqb b.refusal 0 h) u
+
+pub test_refuses : (b : State) (t : Bool) (n : ℕ) → b.refusal ≡ 0 → t ≡ false → test b t n ≡ record { at = b.at; refusal = n }
+test_refuses b t n h u = ap₂ (λ (s t : Bool). refuse_if s t b n) (eq-eqb b.refusal 0 h) u
+
+pub test_stuck : (b : State) (t : Bool) (n : ℕ) → (b.refusal ≡ 0 → ⊥) → test b t n ≡ b
+test_stuck b t n h = ap (λ (s : Bool). refuse_if s t b n) (ne_eqb b.refusal 0 h)
 
 -- ---- the primitive fields
 pub run_here : {s : List ℕ} {b c : State} {t : Bool} {v : ℕ} (n : ℕ) → ahead s b n ≡ (t, c) → t ≡ true → v ≡ part s b.at n

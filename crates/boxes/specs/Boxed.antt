@@ -1,5 +1,5 @@
 -- A box as bytes (ISO/IEC 14496-12, 4.2), and the laws of a body that is written before its header.
-use Rattle.std.specs.Prelude.{◌≡◌, List, [], ◌∷◌, ◌++◌, ℕ, ◌+◌, length}
+use Rattle.std.specs.Prelude.{◌≡◌, refl, List, [], ◌∷◌, ◌++◌, ℕ, ◌+◌, length}
 use Rattle.std.proofs.Common.{◌∙◌, append-nil, arith, length-append}
 use Rattle.octets.specs.BigEndian.{be}
 use Rattle.octets.specs.BigEndianLaws.{length-be}
@@ -52,3 +52,14 @@ in_box o at {n} {m} {r} {type} {bs} {p} {o'} w h =
 pub empty_box : {o : List ℕ} {at r type : ℕ} {o' : List ℕ} → HeaderPut o at 0 type o' r → Wrote o at 8 (boxed type []) o' r
 unfolding boxed
 empty_box {o} {at} {r} {type} {o'} h = record { next = h.next; size = length-boxed type []; left = h.left ∙ rw append-nil }
+
+-- by which `grind` sees that a body and then its header are one write of the box
+pub overwrite_box : (o : List ℕ) (at type m : ℕ) (bs : List ℕ) → m ≡ length bs
+    → overwrite (returned o (at + 8) (overwrite (lent o (at + 8)) 0 bs)) at (box_header type m) ≡ overwrite o at (boxed type bs)
+overwrite_box o at type m bs e =
+    let w : Wrote (lent o (at + 8)) 0 (length bs) bs (overwrite (lent o (at + 8)) 0 bs) m = record { next = omega arith; size = refl; left = refl } in
+    let h : HeaderPut (returned o (at + 8) (overwrite (lent o (at + 8)) 0 bs)) at m type (overwrite (returned o (at + 8) (overwrite (lent o (at + 8)) 0 bs)) at (box_header type m)) (at + (8 + m)) =
+    record { next = refl; left = refl } in
+    (in_box o at w h).left
+
+pub ruleset boxes = (overwrite_box, length-boxed)

@@ -1,5 +1,5 @@
 -- A box that is written is read back, wherever it stands.
-use Rattle.std.specs.Prelude.{◌≡◌, ℕ, ◌+◌, ◌-◌, ◌≤◌, ◌<◌, take, drop}
+use Rattle.std.specs.Prelude.{◌≡◌, ℕ, ◌+◌, ◌-◌, ◌≤◌, ◌<◌, take, drop, None}
 use Rattle.std.proofs.Math.Path.{refl}
 use Rattle.std.proofs.Common.{length-append, take_at, drop_at}
 use mathlib.Core.List.{List, ◌++◌, append_assoc}
@@ -9,9 +9,7 @@ use borrow.Author.Tests.{ne_eqb, le-leb}
 use Rattle.octets.specs.BigEndian.{be, num}
 use Rattle.octets.specs.BigEndianLaws.{length-be, field_at}
 use Rattle.octets.specs.Part.{part_of}
-use Rattle.boxes.specs.declared.BoxSize.TheVariants.{Whole}
-use Rattle.boxes.specs.declared.UserType.TheVariants.{Absent}
-use Rattle.boxes.specs.Size.{bounded, size_at}
+use Rattle.boxes.specs.Size.{whole, bounded, size_at}
 use Rattle.boxes.specs.Header.{UUID, found, typed_at, header_at}
 use Rattle.boxes.specs.Boxed.{box_header, boxed, length-boxed, length-box_header}
 
@@ -36,7 +34,7 @@ module _ (pre : List ℕ) (type : ℕ) (body post : List ℕ) (code : type < 429
   type_read =
       simp append_assoc (simp append_assoc at (field_at 4 type (pre ++ be 4 (8 + length body)) (body ++ post) (length pre + 4) (simp (length-append, length-be)) code))
 
-  size_is : size_at all (length pre) ≡ Whole (8 + length body) 8
+  size_is : size_at all (length pre) ≡ whole (8 + length body) 8
   unfolding size_at bounded
   size_is =
       let h0 : 8 + length body ≡ 0 → ⊥ = λ e. omega arith in
@@ -45,7 +43,7 @@ module _ (pre : List ℕ) (type : ℕ) (body post : List ℕ) (code : type < 429
       let h3 : 8 + length body ≤ length all - length pre = omega (arith, all_length) in
       simp (size_read, ne_eqb _ _ h0, ne_eqb _ _ h1, le-leb _ _ h2, le-leb _ _ h3)
 
-  pub header_read : header_at all (length pre) ≡ found type Absent (length pre) 8 (8 + length body)
+  pub header_read : header_at all (length pre) ≡ found type None (length pre) 8 (8 + length body)
   unfolding header_at typed_at
   header_read =
       let h : length pre + 8 ≤ length all = omega (arith, all_length) in

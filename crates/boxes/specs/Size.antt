@@ -6,27 +6,32 @@
 --     else if (size == 0) the box extends to the end
 --
 -- `size` and `largesize` count the whole box, header and all.
-use Rattle.std.specs.Prelude.{cond, ◌&&◌, List, ℕ, ◌+◌, ◌-◌, ◌≤◌, leb, ltb, eqb, length}
+use Rattle.std.specs.Prelude.{cond, ◌&&◌, List, ℕ, ◌+◌, ◌-◌, ◌≤◌, leb, ltb, eqb, length, Result, Ok, Err}
 use Rattle.octets.specs.BigEndian.{num}
 use Rattle.boxes.specs.declared.BoxSize.{BoxSize}
-use Rattle.boxes.specs.declared.BoxSize.TheVariants.{Whole, Refused}
+use Rattle.boxes.specs.declared.HeaderError.{HeaderError}
+use Rattle.boxes.specs.declared.HeaderError.TheVariants.{TruncatedLargesize, SizeOutOfRange}
 
--- a box of `total` bytes, `head` of them for size, type and largesize: 3 unless it holds these and ends within the `rest`
-unfoldable pub bounded : ℕ → ℕ → ℕ → BoxSize
-bounded head total rest = cond (leb head total && leb total rest) (Whole total head) (Refused 3)
+-- a box of `total` bytes, `head` of them for size, type and largesize
+abbrev pub whole : ℕ → ℕ → Result BoxSize HeaderError
+whole total head = Ok (record { total = total; head = head })
 
--- where size is 1: 2 if the largesize passes the end
-unfoldable pub large_size_at : List ℕ → ℕ → BoxSize
+-- refusal 3 unless the box holds its head and ends within the `rest`
+unfoldable pub bounded : ℕ → ℕ → ℕ → Result BoxSize HeaderError
+bounded head total rest = cond (leb head total && leb total rest) (whole total head) (Err SizeOutOfRange)
+
+-- where size is 1: refusal 2 if the largesize passes the end
+unfoldable pub large_size_at : List ℕ → ℕ → Result BoxSize HeaderError
 large_size_at s i =
     let rest = length s - i in
-    cond (ltb rest 16) (Refused 2) (bounded 16 (num 8 s (i + 8)) rest)
+    cond (ltb rest 16) (Err TruncatedLargesize) (bounded 16 (num 8 s (i + 8)) rest)
 
 -- the size of the box at i, of which at least eight bytes are there
-unfoldable pub size_at : List ℕ → ℕ → BoxSize
+unfoldable pub size_at : List ℕ → ℕ → Result BoxSize HeaderError
 size_at s i =
     let size = num 4 s i in
     let rest = length s - i in
-    cond (eqb size 0) (Whole rest 8) (cond (eqb size 1) (large_size_at s i) (bounded 8 size rest))
+    cond (eqb size 0) (whole rest 8) (cond (eqb size 1) (large_size_at s i) (bounded 8 size rest))
 
 -- a box of `total` bytes at i lies in s, and holds its `head`
 abbrev pub InBuffer : List ℕ → ℕ → ℕ → ℕ → Type 0

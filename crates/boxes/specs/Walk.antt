@@ -1,14 +1,13 @@
 -- The boxes of a file or of a box's payload, one after another (ISO/IEC 14496-12, 4.2), as the box layer reads their headers; and that boxes
 -- which are written are found again. Nothing here knows of pictures.
-use Rattle.std.specs.Prelude.{◌≡◌, refl, Bool, true, false, not, cond, ◌&&◌, List, [], ◌∷◌, ◌++◌, ℕ, zero, suc, ◌+◌, ◌-◌, ◌≤◌, ◌<◌, eqb, ltb, length}
+use Rattle.std.specs.Prelude.{◌≡◌, refl, Bool, true, false, not, cond, ◌&&◌, List, [], ◌∷◌, ◌++◌, ℕ, zero, suc, ◌+◌, ◌-◌, ◌≤◌, ◌<◌, eqb, ltb, length, None, Ok}
 use Rattle.std.proofs.Common.{sym, ◌∙◌, true≢false, append-nil, append_assoc, arith, length-append, eq-eqb, ltb-true}
 use Rattle.std.proofs.lemmas.Bool.{lt-leb, eqb-false, not-true}
 use Rattle.octets.specs.Part.{part_of}
 use Rattle.boxes.specs.Boxed.{boxed, length-boxed}
-use Rattle.boxes.specs.Header.{UUID, refused, header_at}
+use Rattle.boxes.specs.Header.{UUID, blank, header_refusal, header_or_blank, header_at}
 use Rattle.boxes.specs.ReadBack.{header_read, payload_read}
 use Rattle.boxes.specs.declared.BoxHeader.{BoxHeader}
-use Rattle.boxes.specs.declared.UserType.TheVariants.{Absent}
 
 -- ---- reading
 -- where the next box begins
@@ -20,15 +19,15 @@ abbrev pub walk_up_to : ℕ → List ℕ → ℕ → List BoxHeader
 walk_up_to zero s at = []
 walk_up_to (suc n) s at =
     let r = header_at s at in
-    cond (eqb r.refusal 0) (r.header ∷ walk_up_to n s (after r.header)) []
+    cond (eqb (header_refusal r) 0) (header_or_blank r ∷ walk_up_to n s (after (header_or_blank r))) []
 
 -- all of them: there are no more boxes than bytes (`walk_whole`)
 unfoldable pub walk : List ℕ → ℕ → List BoxHeader
 walk s at = walk_up_to (length s) s at
 
--- the first of a type; where there is none, the blank header of a refusal, whose payload is empty
+-- the first of a type; where there is none, the blank header, whose payload is empty
 abbrev pub find : ℕ → List BoxHeader → BoxHeader
-find type [] = (refused 1).header
+find type [] = blank
 find type (h ∷ hs) = cond (eqb h.box_type type) h (find type hs)
 
 -- the payload that a header spans
@@ -58,7 +57,7 @@ pub data All (P : Box → Type 0) : List Box → Type 0 where
 -- the headers of boxes that are written from `at` on
 abbrev pub header_of : Box → ℕ → BoxHeader
 header_of b at =
-    record { box_type = b.type; user_type = Absent; start = at; payload_start = at + 8; payload_len = length b.body }
+    record { box_type = b.type; user_type = None; start = at; payload_start = at + 8; payload_len = length b.body }
 
 abbrev pub headers : ℕ → List Box → List BoxHeader
 headers at [] = []
@@ -66,7 +65,7 @@ headers at (b ∷ bs) = header_of b at ∷ headers (at + (8 + length b.body)) bs
 
 -- ---- walking finds exactly the boxes that were written, in order
 header-found : (pre : List ℕ) (b : Box) (post : List ℕ) → Plain b
-    → header_at (pre ++ (bytes_of b ++ post)) (length pre) ≡ record { refusal = 0; header = header_of b (length pre) }
+    → header_at (pre ++ (bytes_of b ++ post)) (length pre) ≡ Ok (header_of b (length pre))
 header-found pre b post p =
     let n : 8 + length b.body - 8 ≡ length b.body = omega arith in
     header_read pre b.type b.body post p.0 p.1 p.2 ∙ rw n

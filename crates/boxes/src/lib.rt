@@ -6,11 +6,11 @@ pub mod find;
 ghost use Rattle.std.specs.Prelude.{◌≡◌, ◌+◌, ◌≤◌, ◌<◌, length};
 ghost use Rattle.octets.specs.Overwrite.{Wrote};
 ghost use Rattle.octets.specs.Part.{Part};
-ghost use Rattle.boxes.specs.Header.{header_at, typed_at, refused, user_type_at};
+ghost use Rattle.boxes.specs.Header.{header_at, typed_at, number, user_type_at};
 ghost use Rattle.boxes.specs.Size.{size_at, large_size_at, bounded, InBuffer};
 ghost use Rattle.boxes.specs.Boxed.{HeaderPut, full_box_header};
 
-use octets::{get_u32, get_u64, part, put_u8, put_u24, put_u32};
+use octets::{get, part, put, put_u8};
 
 // A four-character code, its first character the highest byte.
 pub type FourCc = u32;
@@ -18,176 +18,158 @@ pub type FourCc = u32;
 pub const UUID: FourCc = 0x75756964;
 
 // The extended type of a 'uuid' box: its sixteen bytes as two numbers, the first eight the high one.
-#[derive(Clone, Copy)]
-pub enum UserType {
-    Absent,
-    Present { high: u64, low: u64 },
+#[derive(Clone, Copy, Debug, PartialEq, Eq)]
+pub struct UserType {
+    pub high: u64,
+    pub low: u64,
 }
 
 // A box's header, and where its payload lies in the buffer.
-#[derive(Clone, Copy)]
+#[derive(Clone, Copy, Debug, PartialEq, Eq)]
 pub struct BoxHeader {
     pub box_type: FourCc,
-    pub user_type: UserType,
+    pub user_type: Option<UserType>,
     pub start: usize,
     pub payload_start: usize,
     pub payload_len: usize,
 }
 
-// What reading a header gives: 0 and the header, or the number of the refusal and the blank header.
-#[derive(Clone, Copy)]
-pub struct HeaderRead {
-    pub refusal: u8,
-    pub header: BoxHeader,
+// Why a header is refused. Each case's value is the number of its refusal.
+#[derive(Clone, Copy, Debug, PartialEq, Eq)]
+pub enum HeaderError {
+    // Fewer than eight bytes are there.
+    TruncatedHeader = 1,
+    // Size 1, and fewer than sixteen bytes are there.
+    TruncatedLargesize = 2,
+    // The box is shorter than its own header, or ends past the bytes that remain.
+    SizeOutOfRange = 3,
+    // A 'uuid' box ends before its extended type does.
+    TruncatedUserType = 4,
 }
 
-// A box's whole length and how many of its bytes size, type and largesize take, or the number of a refusal.
-#[derive(Clone, Copy)]
-pub enum BoxSize {
-    Whole { total: usize, head: usize },
-    Refused(u8),
-}
-
-fn refuse(number: u8) -> HeaderRead
-    ensures { result ≡ refused number }
-{
-    HeaderRead {
-        refusal: number,
-        header: BoxHeader {
-            box_type: 0,
-            user_type: UserType::Absent,
-            start: 0,
-            payload_start: 0,
-            payload_len: 0,
-        },
+impl HeaderError {
+    // The number of the refusal.
+    pub fn number(self) -> u8
+        ensures { result ≡ number self }
+    {
+        self as u8
     }
 }
 
-// Refusal 3: a box holds its own header and ends within the bytes that remain.
-fn bounded(head: usize, total: usize, rest: usize) -> BoxSize
+// A box's whole length, and how many of its bytes size, type and largesize take.
+#[derive(Clone, Copy, Debug, PartialEq, Eq)]
+pub struct BoxSize {
+    pub total: usize,
+    pub head: usize,
+}
+
+// A box holds its own header and ends within the bytes that remain.
+#[tactic(auto, unfolding(crate::specs::Size::bounded))]
+fn bounded(head: usize, total: usize, rest: usize) -> Result<BoxSize, HeaderError>
     ensures { result ≡ bounded head total rest }
 {
-    if total < head {
-        return BoxSize::Refused(3);
+    if (head..=rest).contains(&total) {
+        Ok(BoxSize { total, head })
+    } else {
+        Err(HeaderError::SizeOutOfRange)
     }
-    if rest < total {
-        return BoxSize::Refused(3);
-    }
-    BoxSize::Whole { total, head }
 }
 
-// The size of a box with a largesize: refusal 2.
-fn large_size(buf: &[u8], start: usize) -> BoxSize
+// The size of a box with a largesize.
+#[tactic(auto, unfolding(crate::specs::Size::large_size_at))]
+fn large_size(buf: &[u8], start: usize) -> Result<BoxSize, HeaderError>
     requires { start + 8 ≤ length buf.now }
     ensures { result ≡ large_size_at buf.now start }
 {
     let rest = buf.len() - start;
     if rest < 16 {
-        return BoxSize::Refused(2);
+        return Err(HeaderError::TruncatedLargesize);
     }
-    let largesize = get_u64(buf, start + 8);
-    bounded(16, largesize as usize, rest)
+    bounded(16, get::<8>(buf, start + 8) as usize, rest)
 }
 
 // The size of the box at `start`.
-fn box_size(buf: &[u8], start: usize) -> BoxSize
+#[tactic(auto, unfolding(crate::specs::Size::size_at))]
+fn box_size(buf: &[u8], start: usize) -> Result<BoxSize, HeaderError>
     requires { start + 8 ≤ length buf.now }
     ensures { result ≡ size_at buf.now start }
 {
-    let size = get_u32(buf, start);
     let rest = buf.len() - start;
-    if size == 0 {
-        return BoxSize::Whole {
+    match get::<4>(buf, start) as u32 {
+        0 => Ok(BoxSize {
             total: rest,
             head: 8,
-        };
+        }),
+        1 => large_size(buf, start),
+        size => bounded(8, size as usize, rest),
     }
-    if size == 1 {
-        return large_size(buf, start);
-    }
-    bounded(8, size as usize, rest)
 }
 
-fn user_type(buf: &[u8], at: usize) -> UserType
+#[tactic(auto, unfolding(crate::specs::Header::user_type_at))]
+fn get_user_type(buf: &[u8], at: usize) -> UserType
     requires { at + 16 ≤ length buf.now }
     ensures { result ≡ user_type_at buf.now at }
 {
-    let high = get_u64(buf, at);
-    let low = get_u64(buf, at + 8);
-    UserType::Present { high, low }
+    UserType {
+        high: get::<8>(buf, at),
+        low: get::<8>(buf, at + 8),
+    }
 }
 
-// The header of a box whose size is known: refusal 4.
-fn typed_header(buf: &[u8], start: usize, total: usize, head: usize) -> HeaderRead
-    requires { InBuffer buf.now start total head }
-    ensures { result ≡ typed_at buf.now start total head }
+// The header of a box whose size is known.
+#[tactic(auto, unfolding(crate::specs::Header::typed_at))]
+fn typed_header(buf: &[u8], start: usize, size: BoxSize) -> Result<BoxHeader, HeaderError>
+    requires { InBuffer buf.now start size.total size.head }
+    ensures { result ≡ typed_at buf.now start size.total size.head }
 {
-    let box_type = get_u32(buf, start + 4);
-    let after = start + head;
+    let box_type = get::<4>(buf, start + 4) as u32;
+    let mut head = size.head;
+    let mut user_type = None;
     if box_type == UUID {
-        if total - head < 16 {
-            return refuse(4);
+        if size.total - head < 16 {
+            return Err(HeaderError::TruncatedUserType);
         }
-        let user_type = user_type(buf, after);
-        return HeaderRead {
-            refusal: 0,
-            header: BoxHeader {
-                box_type,
-                user_type,
-                start,
-                payload_start: after + 16,
-                payload_len: total - head - 16,
-            },
-        };
+        user_type = Some(get_user_type(buf, start + head));
+        head += 16;
     }
-    HeaderRead {
-        refusal: 0,
-        header: BoxHeader {
-            box_type,
-            user_type: UserType::Absent,
-            start,
-            payload_start: after,
-            payload_len: total - head,
-        },
-    }
+    Ok(BoxHeader {
+        box_type,
+        user_type,
+        start,
+        payload_start: start + head,
+        payload_len: size.total - head,
+    })
 }
 
 // The header of the box at `start`, for every buffer and every start.
-pub fn parse_box_header(buf: &[u8], start: usize) -> HeaderRead
+#[tactic(auto, using(crate::specs::WalkEnds::in_buffer), unfolding(crate::specs::Header::header_at))]
+pub fn parse_box_header(buf: &[u8], start: usize) -> Result<BoxHeader, HeaderError>
     ensures { result ≡ header_at buf.now start }
 {
-    let n = buf.len();
-    if n < 8 {
-        return refuse(1);
+    if buf.len() < 8 || buf.len() - 8 < start {
+        return Err(HeaderError::TruncatedHeader);
     }
-    if n - 8 < start {
-        return refuse(1);
-    }
-    let size = box_size(buf, start);
-    match size {
-        BoxSize::Refused(number) => refuse(number),
-        BoxSize::Whole { total, head } => typed_header(buf, start, total, head),
-    }
+    let size = box_size(buf, start)?;
+    typed_header(buf, start, size)
 }
 
 // The payload that a header spans, as a part of `buf`; the empty part at its start where the header passes `buf`.
 pub fn payload(buf: &[u8], h: BoxHeader) -> &[u8]
     ensures { Part buf.entry h.payload_start h.payload_len result }
 {
-    let at = h.payload_start;
-    let len = h.payload_len;
-    part(buf, at, len)
+    part(buf, h.payload_start, h.payload_len)
 }
 
 // Fills in the header of a box whose body of `len` bytes stands at `at + 8`, and returns the position after the body. The
-// caller has written the body into `&mut out[at + 8..]`, so the length is known only now.
+// caller has written the body into `&mut out[at + 8..]`, so the length is known only now. Each box has these few lines of its own: with the
+// body's writer as a closure, its clauses would stand at every call.
 pub fn put_box_header(out: &mut [u8], at: usize, len: usize, box_type: FourCc) -> usize
     requires { (at + 8 + len ≤ length out.old) × (8 + len < 4294967296) }
     ensures { HeaderPut out.old at len box_type out.new result }
 {
     let size = 8 + len;
-    let after = put_u32(out, at, size as u32);
-    put_u32(out, after, box_type);
+    let after = put::<4>(out, at, size as u64);
+    put::<4>(out, after, box_type as u64);
     at + size
 }
 
@@ -197,5 +179,5 @@ pub fn put_full_box_header(out: &mut [u8], at: usize, version: u8, flags: u32) -
     ensures { Wrote out.old at 4 (full_box_header version flags) out.new result }
 {
     let after = put_u8(out, at, version);
-    put_u24(out, after, flags)
+    put::<3>(out, after, flags as u64)
 }

@@ -1,5 +1,5 @@
 -- The equivalent file (ISO/IEC 23008-12, O.4; document 01, 'The equivalent file'; mini.rs, `equivalent_file`): ftyp, meta, mdat.
-use Rattle.std.specs.Prelude.{List, [], ◌∷◌, ◌++◌, ℕ, ◌+◌}
+use Rattle.std.specs.Prelude.{List, [], ◌∷◌, ◌++◌, ℕ, ◌+◌, Option, Some, None, is_some}
 use Rattle.boxes.specs.Boxed.{boxed, full_box_header}
 use Rattle.ftyp.specs.FileType.{ftyp, ftyp_len}
 use Rattle.items.specs.HandlerAndPrimary.{hdlr, hdlr_len, pitm, pitm_len}
@@ -11,19 +11,17 @@ use Rattle.items.specs.ItemReferences.{iref, iref_len}
 use Rattle.items.specs.Optional.{bytes_if, len_if}
 use Rattle.items.specs.declared.DataLengths.{DataLengths}
 use Rattle.items.specs.declared.ItemSet.{ItemSet}
-use Rattle.mini.specs.Chunks.{is_present}
 use Rattle.mini.specs.Same.{chunk_len, chunk_bytes, span_bytes}
-use Rattle.mini.specs.declared.ExplicitCodecTypes.{ExplicitCodecTypes}
-use Rattle.mini.specs.declared.ExplicitCodecTypes.TheVariants as types_are
+use Rattle.mini.specs.declared.CodecTypes.{CodecTypes}
 use Rattle.mini.specs.declared.MinimizedImage.{MinimizedImage}
 use Rattle.slots.specs.Associations.{iprp}
 use Rattle.slots.specs.Lengths.{iprp_len}
 use Rattle.slots.specs.Slots.{has_alpha_item, has_gain_map_item}
 
 -- the type of coded items; expanding is refused where there is none (14)
-abbrev pub item_type : ExplicitCodecTypes → ℕ
-item_type types_are.Absent = 0
-item_type (types_are.Present infe config) = infe
+abbrev pub item_type : Option CodecTypes → ℕ
+item_type None = 0
+item_type (Some types) = types.infe_type
 
 -- ---- the items
 unfoldable pub item_set : MinimizedImage → ItemSet
@@ -34,8 +32,8 @@ item_set i =
       premultiplied = i.alpha_premultiplied;
       tone_map = i.has_gain_map;
       gain_map = has_gain_map_item i;
-      exif = is_present i.exif;
-      xmp = is_present i.xmp;
+      exif = is_some i.exif;
+      xmp = is_some i.xmp;
       compressed = i.exif_xmp_compressed;
     }
 

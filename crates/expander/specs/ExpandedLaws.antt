@@ -1,6 +1,6 @@
 -- What expanding leaves in the output holds every byte where its location says (demand 3); the payloads that the demand names are among
 -- those that expand; and the numbers that come back are small (demand 1).
-use Rattle.std.specs.Prelude.{◌≡◌, Bool, not, cond, List, ℕ, ◌≤◌, ◌<◌, eqb, length, take}
+use Rattle.std.specs.Prelude.{◌≡◌, Bool, not, cond, List, ℕ, ◌≤◌, ◌<◌, eqb, length, take, is_some}
 use Rattle.std.proofs.Math.Path.{refl}
 use Rattle.std.proofs.Common.{sym, subst, arith, lit≤, eqb-true, ltb-false}
 use Rattle.std.proofs.Math.Bool.{true, false}
@@ -12,13 +12,12 @@ use Rattle.ftyp.specs.FileType.{allowed}
 use Rattle.mini.specs.Read.{read_mini}
 use Rattle.mini.proofs.RoundTrip.{read_writable}
 use Rattle.mini.specs.Same.{well_placed}
-use Rattle.mini.specs.Views.{has_codec_types}
 use Rattle.mini.proofs.WellPlaced.{read_placed}
 use Rattle.mini.specs.Write.{writable}
 use Rattle.mini.specs.declared.MinimizedImage.{MinimizedImage}
 use Rattle.slots.specs.Bounds.{cond_most}
 use Rattle.writer.specs.ToBox.{refused}
-use Rattle.writer.specs.declared.Written.{Written}
+use Rattle.writer.specs.Outcome.{Written}
 use Rattle.mini.specs.RecordHeader.{T_true}
 use Rattle.expander.specs.EquivalentFile.{item_bytes, file}
 use Rattle.expander.specs.EveryByte.{every_byte}
@@ -29,7 +28,7 @@ use Rattle.expander.specs.Outcome.{has_native_alpha, is_uuid, refusal_of, expand
 
 -- ---- the record read from a payload, with that payload as its source
 pub read_expands : (p brands : List ℕ) → (read_mini p).refusal ≡ 0 → allowed brands ≡ true
-    → has_codec_types (read_mini p).image.explicit_codec_types ≡ true → is_uuid (read_mini p).image.explicit_codec_types ≡ false
+    → is_some (read_mini p).image.explicit_codec_types ≡ true → is_uuid (read_mini p).image.explicit_codec_types ≡ false
     → has_native_alpha (read_mini p).image ≡ false → refusal_of (read_mini p).image p brands ≡ 0
 unfolding refusal_of
 read_expands p brands z a t u n =
@@ -45,7 +44,7 @@ refusal_most i s brands =
     (cond_most (not (writable i)) 11 _ 15 (lit≤ tt)
     (cond_most (has_native_alpha i) 12 _ 15 (lit≤ tt)
     (cond_most (is_uuid c) 13 _ 15 (lit≤ tt)
-    (cond_most (not (has_codec_types c)) 14 _ 15 (lit≤ tt) (cond_most (not (allowed brands)) 15 0 15 (lit≤ tt) (lit≤ tt))))))
+    (cond_most (not (is_some c)) 14 _ 15 (lit≤ tt) (cond_most (not (allowed brands)) 15 0 15 (lit≤ tt) (lit≤ tt))))))
 
 module _ (i : MinimizedImage) (s : List ℕ) (major minor : ℕ) (brands out : List ℕ) where
   abbrev f : List ℕ

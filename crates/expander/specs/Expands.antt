@@ -1,11 +1,10 @@
 -- Every record that expands is well placed, can be written and comes with an allowed list of brands (document 01, 'What goes back when it cannot be
 -- done', 10 to 15).
-use Rattle.std.specs.Prelude.{◌≡◌, refl, Bool, true, false, not, cond, List, ℕ, ◌<◌, T}
+use Rattle.std.specs.Prelude.{◌≡◌, refl, Bool, true, false, not, cond, List, ℕ, ◌<◌, T, is_some}
 use Rattle.std.proofs.Common.{true≢false, arith, lit<}
 use Rattle.std.proofs.lemmas.Bool.{not-false}
 use Rattle.ftyp.specs.FileType.{allowed}
 use Rattle.mini.specs.Same.{well_placed}
-use Rattle.mini.specs.Views.{has_codec_types}
 use Rattle.mini.specs.Write.{writable}
 use Rattle.mini.specs.declared.MinimizedImage.{MinimizedImage}
 use Rattle.expander.specs.Outcome.{has_native_alpha, is_uuid, refusal_of}
@@ -16,7 +15,7 @@ pub record Expands (i : MinimizedImage) (s brands : List ℕ) : Type 0 where
   pub can_write : T (writable i)
   pub no_native_alpha : has_native_alpha i ≡ false
   pub no_uuid : is_uuid i.explicit_codec_types ≡ false
-  pub typed : T (has_codec_types i.explicit_codec_types)
+  pub typed : T (is_some i.explicit_codec_types)
   pub brands_allowed : allowed brands ≡ true
 
 passed : (t : Bool) (n later : ℕ) → 0 < n → cond t n later ≡ 0 → (t ≡ false) × (later ≡ 0)
@@ -34,13 +33,13 @@ expands i s brands e =
     let b = passed (not (writable i)) 11 _ (lit< tt) a.1 in
     let c = passed (has_native_alpha i) 12 _ (lit< tt) b.1 in
     let d = passed (is_uuid i.explicit_codec_types) 13 _ (lit< tt) c.1 in
-    let t = passed (not (has_codec_types i.explicit_codec_types)) 14 _ (lit< tt) d.1 in
+    let t = passed (not (is_some i.explicit_codec_types)) 14 _ (lit< tt) d.1 in
     let f = passed (not (allowed brands)) 15 _ (lit< tt) t.1 in
     record {
       placed = holds (well_placed i s) a.0;
       can_write = holds (writable i) b.0;
       no_native_alpha = c.0;
       no_uuid = d.0;
-      typed = holds (has_codec_types i.explicit_codec_types) t.0;
+      typed = holds (is_some i.explicit_codec_types) t.0;
       brands_allowed = not-false (allowed brands) f.0;
     }

@@ -1,25 +1,68 @@
 -- What expanding answers and leaves in the output, for every record, source, original file type and output (document 01, 'What goes back
 -- when it cannot be done': 10 to 16 in this order).
-use Rattle.std.specs.Prelude.{Bool, false, not, cond, ◌&&◌, ◌||◌, List, [], ◌∷◌, ℕ, eqb, ltb, length}
+use Rattle.std.specs.Prelude.{◌≡◌, Bool, false, not, cond, ◌&&◌, ◌||◌, List, [], ◌∷◌, ℕ, eqb, ltb, length, Option, Some, None, is_some, Result, Ok, Err}
+use Rattle.std.proofs.Common.{arith}
 use Rattle.octets.specs.Overwrite.{overwrite}
 use Rattle.boxes.specs.Header.{UUID}
 use Rattle.ftyp.specs.FileType.{allowed}
 use Rattle.mini.specs.Same.{well_placed}
-use Rattle.mini.specs.Views.{has_codec_types}
 use Rattle.mini.specs.Write.{writable}
-use Rattle.mini.specs.declared.ExplicitCodecTypes.{ExplicitCodecTypes}
-use Rattle.mini.specs.declared.ExplicitCodecTypes.TheVariants as types_are
+use Rattle.mini.specs.declared.CodecTypes.{CodecTypes}
 use Rattle.mini.specs.declared.MinimizedImage.{MinimizedImage}
 use Rattle.writer.specs.ToBox.{refused}
-use Rattle.writer.specs.declared.Written.{Written}
+use Rattle.writer.specs.Outcome.{Written}
 use Rattle.expander.specs.EquivalentFile.{file}
+use Rattle.expander.specs.declared.refusal.ExpandError.{ExpandError}
+use Rattle.expander.specs.declared.refusal.ExpandError.TheVariants.{Misplaced, Unwritable, NativeAlpha, UuidCodecType, NoCodecTypes, BrandList, TooShort}
 
+-- ---- refusals
+-- the number of each
+abbrev pub number : ExpandError → ℕ
+number Misplaced = 10
+number Unwritable = 11
+number NativeAlpha = 12
+number UuidCodecType = 13
+number NoCodecTypes = 14
+number BrandList = 15
+number (TooShort needed) = 16
+
+-- none is 0
+pub number_not_zero : (e : ExpandError) → number e ≡ 0 → ⊥
+number_not_zero Misplaced z = omega arith
+number_not_zero Unwritable z = omega arith
+number_not_zero NativeAlpha z = omega arith
+number_not_zero UuidCodecType z = omega arith
+number_not_zero NoCodecTypes z = omega arith
+number_not_zero BrandList z = omega arith
+number_not_zero (TooShort needed) z = omega arith
+
+-- the length that comes with it
+abbrev pub needed_in : ExpandError → ℕ
+needed_in Misplaced = 0
+needed_in Unwritable = 0
+needed_in NativeAlpha = 0
+needed_in UuidCodecType = 0
+needed_in NoCodecTypes = 0
+needed_in BrandList = 0
+needed_in (TooShort needed) = needed
+
+-- the refusal's number in an answer, 0 for none
+abbrev pub refusal_in : {A : Type 0} → Result A ExpandError → ℕ
+refusal_in (Ok x) = 0
+refusal_in (Err e) = number e
+
+-- an answer as a number and a length
+abbrev pub outcome_of : Result ℕ ExpandError → Written
+outcome_of (Ok len) = record { refusal = 0; len = len }
+outcome_of (Err e) = record { refusal = number e; len = needed_in e }
+
+-- ---- when
 abbrev pub has_native_alpha : MinimizedImage → Bool
 has_native_alpha i = i.alpha && eqb i.alpha_data.len 0
 
-abbrev pub is_uuid : ExplicitCodecTypes → Bool
-is_uuid types_are.Absent = false
-is_uuid (types_are.Present infe config) = eqb infe UUID || eqb config UUID
+abbrev pub is_uuid : Option CodecTypes → Bool
+is_uuid None = false
+is_uuid (Some types) = eqb types.infe_type UUID || eqb types.codec_config_type UUID
 
 -- the first number whose condition holds, 0 for none
 abbrev pub first : List (Bool × ℕ) → ℕ
@@ -33,7 +76,7 @@ refusal_of i s brands =
     ∷ (not (writable i), 11)
     ∷ (has_native_alpha i, 12)
     ∷ (is_uuid i.explicit_codec_types, 13)
-    ∷ (not (has_codec_types i.explicit_codec_types), 14)
+    ∷ (not (is_some i.explicit_codec_types), 14)
     ∷ (not (allowed brands), 15)
     ∷ [])
 

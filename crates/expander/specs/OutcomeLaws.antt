@@ -1,7 +1,7 @@
 -- The ways through the answer of expanding. Assumes nothing.
-use Rattle.std.specs.Prelude.{◌≡◌, Bool, ℕ, ◌≤◌, ◌<◌, ltb}
+use Rattle.std.specs.Prelude.{◌≡◌, Bool, ℕ, ◌≤◌, ◌<◌, ltb, Err}
 use Rattle.std.proofs.Math.Path.{sym, ap, ap₂}
-use Rattle.std.proofs.Common.{◌∙◌, subst, eq-eqb, ne_eqb, lt-ltb, le-ltb}
+use Rattle.std.proofs.Common.{◌∙◌, arith, subst, eq-eqb, ne_eqb, lt-ltb, le-ltb}
 use Rattle.std.proofs.Math.Bool.{cond}
 use mathlib.Core.List.{List, ◌++◌}
 use Rattle.std.proofs.Math.ListN.{length}
@@ -11,11 +11,23 @@ use Rattle.ftyp.specs.FileTypeLaws.{allowed_whole, ftyp_is}
 use Rattle.ftyp.specs.declared.FileType.{FileType}
 use Rattle.mini.specs.declared.MinimizedImage.{MinimizedImage}
 use Rattle.writer.specs.ToBox.{refused}
-use Rattle.writer.specs.declared.Written.{Written}
+use Rattle.writer.specs.Outcome.{Written}
 use Rattle.expander.specs.EquivalentFile.{meta, mdat, content_start, file_len, file}
 use Rattle.expander.specs.Expands.{expands}
 use Rattle.expander.specs.FileLength.{length_file}
-use Rattle.expander.specs.Outcome.{refusal_of, expanded, expanded_len}
+use Rattle.expander.specs.Outcome.{number, outcome_of, refusal_of, expanded, expanded_len}
+use Rattle.expander.specs.declared.refusal.ExpandError.{ExpandError}
+use Rattle.expander.specs.declared.refusal.ExpandError.TheVariants.{Misplaced, Unwritable, NativeAlpha, UuidCodecType, NoCodecTypes, BrandList, TooShort}
+
+-- 10 to 15 come with the length 0
+pub refused_of : (e : ExpandError) {r : ℕ} → number e ≡ r → r ≤ 15 → outcome_of (Err e) ≡ record { refusal = r; len = 0 }
+refused_of Misplaced f h = ap (λ (k : ℕ). record { refusal = k; len = 0 }) f
+refused_of Unwritable f h = ap (λ (k : ℕ). record { refusal = k; len = 0 }) f
+refused_of NativeAlpha f h = ap (λ (k : ℕ). record { refusal = k; len = 0 }) f
+refused_of UuidCodecType f h = ap (λ (k : ℕ). record { refusal = k; len = 0 }) f
+refused_of NoCodecTypes f h = ap (λ (k : ℕ). record { refusal = k; len = 0 }) f
+refused_of BrandList f h = ap (λ (k : ℕ). record { refusal = k; len = 0 }) f
+refused_of (TooShort needed) f h = absurd (omega arith)
 
 -- ---- the ways through
 module _ (i : MinimizedImage) (s : List ℕ) (major minor : ℕ) (brands : List ℕ) where

@@ -1,5 +1,5 @@
 -- What the writers of a file need of a record and its source; every record that is well placed and can be written has it. Assumes nothing.
-use Rattle.std.specs.Prelude.{◌≡◌, refl, Bool, true, false, not, ◌&&◌, ◌||◌, List, [], ◌∷◌, ◌++◌, ℕ, ◌+◌, ◌≤◌, T, length}
+use Rattle.std.specs.Prelude.{◌≡◌, refl, Bool, true, false, not, ◌&&◌, ◌||◌, List, [], ◌∷◌, ◌++◌, ℕ, ◌+◌, ◌≤◌, T, length, Option, Some, None}
 use Rattle.std.proofs.lemmas.Bool.{false≢true}
 use Rattle.std.proofs.Common.{arith, leb→le, length-append}
 use Rattle.bits.specs.Format.{and_split}
@@ -12,8 +12,6 @@ use Rattle.items.specs.Optional.{bytes_if, len_if, if_most}
 use Rattle.mini.specs.NoPayloadGives.{lawful}
 use Rattle.mini.specs.Same.{chunk_len, chunk_bytes, span_bytes, chunk_in, span_in, gain_in, well_placed}
 use Rattle.mini.specs.Write.{writable}
-use Rattle.mini.specs.declared.Chunk.{Chunk}
-use Rattle.mini.specs.declared.Chunk.TheVariants as chunk-is
 use Rattle.mini.specs.declared.MinimizedImage.{MinimizedImage}
 use Rattle.mini.specs.declared.Span.{Span}
 use Rattle.slots.specs.Bounds.{iprp_most}
@@ -114,9 +112,9 @@ content_most i b =
     )
 
 -- ---- the items' bytes are as many as the record says
-length_chunk : (c : Chunk) (s : List ℕ) → ChunkPlaced c s → length (chunk_bytes c s) ≡ chunk_len c
-length_chunk chunk-is.Absent s h = refl
-length_chunk (chunk-is.Present at len) s h = length_span (record { at = at; len = len }) s h
+length_chunk : (c : Option Span) (s : List ℕ) → ChunkPlaced c s → length (chunk_bytes c s) ≡ chunk_len c
+length_chunk None s h = refl
+length_chunk (Some x) s h = length_span x s h
 
 length_tone_map : (on : Bool) (x : Span) (s : List ℕ) → PlacedIf on x s → length (bytes_if on ((0 ∷ []) ++ span_bytes x s)) ≡ len_if on (1 + x.len)
 length_tone_map true x s h = simp length-append (omega (arith, length_span x s (h refl)))

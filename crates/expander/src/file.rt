@@ -4,7 +4,7 @@ ghost use Rattle.octets.specs.Overwrite.{Wrote};
 ghost use Rattle.ftyp.specs.FileType.{allowed, file_type_len, file_type_box};
 ghost use Rattle.items.specs.ItemLocations.{data_len};
 ghost use Rattle.slots.specs.Sound.{Bounded, Sound};
-ghost use Rattle.expander.specs.EquivalentFile.{item_type, item_set, data_lengths, item_boxes, item_boxes_len, meta_body, meta_body_len, meta, mdat};
+ghost use Rattle.expander.specs.EquivalentFile.{item_set, data_lengths, item_boxes, item_boxes_len, meta_body, meta_body_len, meta, mdat};
 ghost use Rattle.expander.specs.Placed.{DataPlaced, Fit};
 
 use crate::item_data::put_item_data;
@@ -15,7 +15,7 @@ use items::info::{iinf_len, put_iinf};
 use items::locations::{iloc_len, put_iloc};
 use items::references::{iref_len, put_iref};
 use items::{DataLengths, ItemSet, put_hdlr, put_pitm};
-use mini::{ExplicitCodecTypes, MinimizedImage};
+use mini::MinimizedImage;
 use slots::groups::{has_alpha_item, has_gain_map_item};
 use slots::iprp::put_iprp;
 use slots::lengths::iprp_len;
@@ -24,50 +24,34 @@ const META: FourCc = 0x6D657461;
 
 const MDAT: FourCc = 0x6D646174;
 
-fn item_type(types: ExplicitCodecTypes) -> FourCc
-    ensures { result ≡ item_type types }
-{
-    match types {
-        ExplicitCodecTypes::Absent => 0,
-        ExplicitCodecTypes::Present {
-            infe_type,
-            codec_config_type: _,
-        } => infe_type,
-    }
-}
-
+#[tactic(auto, unfolding(crate::specs::EquivalentFile::item_set))]
 fn item_set(image: MinimizedImage) -> ItemSet
     ensures { result ≡ item_set image }
 {
-    let types = image.explicit_codec_types;
-    let item_type = item_type(types);
-    let alpha = has_alpha_item(image);
-    let gain_map = has_gain_map_item(image);
-    let exif_chunk = image.exif;
-    let exif = exif_chunk.is_present();
-    let xmp_chunk = image.xmp;
-    let xmp = xmp_chunk.is_present();
     ItemSet {
-        item_type,
-        alpha,
+        item_type: image
+            .explicit_codec_types
+            .map_or(0, |types| types.infe_type),
+        alpha: has_alpha_item(image),
         premultiplied: image.alpha_premultiplied,
         tone_map: image.has_gain_map,
-        gain_map,
-        exif,
-        xmp,
+        gain_map: has_gain_map_item(image),
+        exif: image.exif.is_some(),
+        xmp: image.xmp.is_some(),
         compressed: image.exif_xmp_compressed,
     }
 }
 
 // The handler, the primary item, the items and their references.
+#[tactic(auto, using(octets::specs::OverwriteLaws::writes), unfolding(crate::specs::EquivalentFile::item_boxes))]
 fn put_item_boxes(out: &mut [u8], at: usize, set: ItemSet) -> usize
     requires { at + item_boxes_len set ≤ length out.old }
     ensures { Wrote out.old at (item_boxes_len set) (item_boxes set) out.new result }
 {
-    let a = put_hdlr(out, at);
-    let b = put_pitm(out, a);
-    let c = put_iinf(out, b, set);
-    put_iref(out, c, set)
+    let at = put_hdlr(out, at);
+    let at = put_pitm(out, at);
+    let at = put_iinf(out, at, set);
+    put_iref(out, at, set)
 }
 
 fn put_meta_body(
@@ -82,11 +66,11 @@ fn put_meta_body(
     requires of_image { (set ≡ item_set image) × (lengths ≡ data_lengths image) }
     ensures { Wrote out.old 0 (meta_body_len image) (meta_body image source.now base) out.new result }
 {
-    let a = put_full_box_header(out, 0, 0, 0);
-    let b = put_item_boxes(out, a, set);
-    let c = put_iprp(out, b, image, source);
-    let d = put_grpl(out, c, set);
-    put_iloc(out, d, base, lengths)
+    let at = put_full_box_header(out, 0, 0, 0);
+    let at = put_item_boxes(out, at, set);
+    let at = put_iprp(out, at, image, source);
+    let at = put_grpl(out, at, set);
+    put_iloc(out, at, base, lengths)
 }
 
 fn put_meta(
@@ -131,9 +115,9 @@ pub fn put_file(
     ensures { Wrote out.old 0 (file_type_len file_type brands.now + (8 + meta_body_len image) + (8 + data_len (data_lengths image)))
         (file_type_box file_type brands.now ++ meta image source.now base ++ mdat image source.now) out.new result }
 {
-    let a = put_ftyp(out, 0, file_type, brands);
-    let b = put_meta(out, a, image, source, lengths, base);
-    put_mdat(out, b, image, source)
+    let at = put_ftyp(out, 0, file_type, brands);
+    let at = put_meta(out, at, image, source, lengths, base);
+    put_mdat(out, at, image, source)
 }
 
 pub fn meta_body_len(image: MinimizedImage, lengths: DataLengths) -> usize
@@ -141,10 +125,8 @@ pub fn meta_body_len(image: MinimizedImage, lengths: DataLengths) -> usize
     ensures { (result ≡ meta_body_len image) × (result ≤ 2110595) }
 {
     let set = item_set(image);
-    let a = iinf_len(set);
-    let b = iref_len(set);
-    let c = iprp_len(image);
-    let d = grpl_len(set);
-    let e = iloc_len(lengths);
-    4 + (33 + 14 + a + b) + c + d + e
+    4 + (33 + 14 + iinf_len(set) + iref_len(set))
+        + iprp_len(image)
+        + grpl_len(set)
+        + iloc_len(lengths)
 }

@@ -1,63 +1,91 @@
 // Whether a record expands: refusals 10 to 15.
-ghost use Rattle.std.specs.Prelude.{◌≡◌, [], ◌∷◌, ◌≤◌};
-ghost use Rattle.expander.specs.Outcome.{is_uuid, first, refusal_of};
+ghost use Rattle.std.specs.Prelude.{◌≡◌, ◌≤◌};
+ghost use Rattle.expander.specs.Outcome.{is_uuid, number, needed_in, refusal_in, refusal_of};
 
-use bits::{both, either};
 use boxes::UUID;
 use ftyp::allowed;
-use mini::{ExplicitCodecTypes, MinimizedImage};
+use mini::{CodecTypes, MinimizedImage};
 use writer::checks::well_placed;
 use writer::is_writable;
 
-fn is_uuid(types: ExplicitCodecTypes) -> bool
+// Why a record is not expanded.
+#[derive(Clone, Copy, Debug, PartialEq, Eq)]
+pub enum ExpandError {
+    // A present chunk passes the end of the source.
+    Misplaced,
+    // No payload reads to the record.
+    Unwritable,
+    // Alpha is set, and the alpha data is empty.
+    NativeAlpha,
+    // An explicit codec type is 'uuid'.
+    UuidCodecType,
+    // There are no explicit codec types.
+    NoCodecTypes,
+    // The brand list isn't a multiple of 4 bytes, or is over 4,096 bytes.
+    BrandList,
+    // The output is shorter than the file.
+    TooShort { needed: usize },
+}
+
+impl ExpandError {
+    // The number of the refusal.
+    pub fn number(self) -> u8
+        ensures { result ≡ number self }
+    {
+        match self {
+            ExpandError::Misplaced => 10,
+            ExpandError::Unwritable => 11,
+            ExpandError::NativeAlpha => 12,
+            ExpandError::UuidCodecType => 13,
+            ExpandError::NoCodecTypes => 14,
+            ExpandError::BrandList => 15,
+            ExpandError::TooShort { .. } => 16,
+        }
+    }
+
+    // The length that comes with it: the one needed, else 0. Each error says its own, since each has cases of its own.
+    pub fn needed(self) -> usize
+        ensures { result ≡ needed_in self }
+    {
+        match self {
+            ExpandError::TooShort { needed } => needed,
+            _ => 0,
+        }
+    }
+}
+
+fn is_uuid(types: Option<CodecTypes>) -> bool
     ensures { result ≡ is_uuid types }
 {
-    match types {
-        ExplicitCodecTypes::Absent => false,
-        ExplicitCodecTypes::Present {
-            infe_type,
-            codec_config_type,
-        } => either(infe_type == UUID, codec_config_type == UUID),
-    }
+    let Some(types) = types else {
+        return false;
+    };
+    types.infe_type == UUID || types.codec_config_type == UUID
 }
 
-// The number of the first that holds, 0 for none.
-fn first(a: bool, b: bool, c: bool, d: bool, e: bool, f: bool) -> usize
-    ensures value { result ≡ first ((a, 10) ∷ (b, 11) ∷ (c, 12) ∷ (d, 13) ∷ (e, 14) ∷ (f, 15) ∷ []) }
-    ensures upper_bound { result ≤ 15 }
+// The first of the reasons not to expand a record, if there is one.
+#[tactic(auto, unfolding(crate::specs::Outcome::refusal_of))]
+pub fn check(image: MinimizedImage, source: &[u8], brands: &[u8]) -> Result<(), ExpandError>
+    ensures value { refusal_in result ≡ refusal_of image source.now brands.now }
+    ensures upper_bound { refusal_in result ≤ 15 }
 {
-    if a {
-        return 10;
+    if !well_placed(image, source) {
+        return Err(ExpandError::Misplaced);
     }
-    if b {
-        return 11;
+    if !is_writable(image) {
+        return Err(ExpandError::Unwritable);
     }
-    if c {
-        return 12;
+    if image.alpha && image.alpha_data.len == 0 {
+        return Err(ExpandError::NativeAlpha);
     }
-    if d {
-        return 13;
+    if is_uuid(image.explicit_codec_types) {
+        return Err(ExpandError::UuidCodecType);
     }
-    if e {
-        return 14;
+    if image.explicit_codec_types.is_none() {
+        return Err(ExpandError::NoCodecTypes);
     }
-    if f {
-        return 15;
+    if !allowed(brands) {
+        return Err(ExpandError::BrandList);
     }
-    0
-}
-
-pub fn refusal_of(image: MinimizedImage, source: &[u8], brands: &[u8]) -> usize
-    ensures value { result ≡ refusal_of image source.now brands.now }
-    ensures upper_bound { result ≤ 15 }
-{
-    let placed = well_placed(image, source);
-    let writable = is_writable(image);
-    let alpha_data = image.alpha_data;
-    let native = both(image.alpha, alpha_data.len == 0);
-    let types = image.explicit_codec_types;
-    let uuid = is_uuid(types);
-    let typed = types.is_present();
-    let branded = allowed(brands);
-    first(!placed, !writable, native, uuid, !typed, !branded)
+    Ok(())
 }

@@ -1,7 +1,7 @@
 -- The ways in which an exported function answers (Answer): it refuses, the output is too short, or the bytes are written; and the same of a call
 -- that has written by itself. Assumes nothing.
 use Rattle.std.specs.Prelude.{◌≡◌, refl, Bool, true, false, cond, List, ℕ, ◌≤◌, ◌<◌, eqb, ltb}
-use Rattle.std.proofs.Common.{sym, ap, ◌∙◌, subst}
+use Rattle.std.proofs.Common.{sym, ap, ◌∙◌, subst, ltb-true, ltb-false}
 use native.Mathlib.Omega.{arith}
 use Rattle.std.proofs.Math.ListN.{length}
 use borrow.Author.Tests.{eq-eqb, ne_eqb, lt-ltb, le-ltb}
@@ -9,7 +9,7 @@ use Rattle.octets.specs.Overwrite.{overwrite, Wrote}
 use Rattle.mini.specs.Read.{read_mini}
 use Rattle.expander.specs.Outcome.{refusal_of}
 use Rattle.writer.specs.ToBox.{refused}
-use Rattle.writer.specs.declared.Written.{Written}
+use Rattle.writer.specs.Outcome.{Written}
 use Rattle.exports.specs.Answer.{packed, answer, Answered, expand_refusal}
 
 module _ {refusal : ℕ} {bytes out : List ℕ} where
@@ -28,6 +28,22 @@ module _ {refusal : ℕ} {bytes out : List ℕ} where
   unfolding answer
   hands_out {out'} {r} {n} z w h =
       record { is = simp (w.size, w.left, z, le-ltb _ _ h) }
+
+-- `hand_out`: the output is too short, or the bytes are written
+pub handed_out : {refusal : ℕ} {bytes out out' : List ℕ} {r n : ℕ} → refusal ≡ 0 → length bytes ≡ n
+    → (length out < n → (r ≡ packed 16 n) × (out' ≡ out))
+    → (n ≤ length out → Wrote out 0 n bytes out' r)
+    → Answered refusal bytes out out' r
+handed_out {refusal} {bytes} {out} {out'} {r} {n} z s short wrote = go (ltb (length out) n) refl
+  where
+    go : (t : Bool) → ltb (length out) n ≡ t → Answered refusal bytes out out' r
+    go true e =
+        let h = ltb-true (length out) n e in
+        rw (short h).1 (lacks_room z s h (short h).0)
+    go false e =
+        let h = ltb-false (length out) n e in
+        let k : r ≡ n = omega (arith, (wrote h).next) in
+        rw k (hands_out z (wrote h) h)
 
 -- a call that answers with a number and a length, and has written by itself
 pub answers : (n : ℕ) (b out : List ℕ) {w : Written} {out' : List ℕ} {r : ℕ}

@@ -1,5 +1,6 @@
 // The number that an exported function returns: the refusal's number times 2^48, plus a value.
-ghost use Rattle.std.specs.Prelude.{◌≡◌, ◌<◌};
+ghost use Rattle.std.specs.Prelude.{◌≡◌, ◌<◌, ◌≤◌, length};
+ghost use Rattle.std.specs.Fn.{FnOnceReturnsAtMut, FnOnceTakesAtMut};
 ghost use Rattle.exports.specs.Answer.{unit, packed};
 
 // 2^48
@@ -18,6 +19,19 @@ pub fn too_short(needed: usize) -> u64
     ensures { result ≡ packed 16 needed }
 {
     16 * UNIT + needed as u64
+}
+
+// The length that `put` writes into an output of at least `needed` bytes; refusal 16 where the output is shorter.
+pub fn hand_out<F: FnOnce(&mut [u8]) -> usize>(needed: usize, out: &mut [u8], put: F) -> u64
+    requires small { needed < unit }
+    requires callable { needed ≤ length out.old → FnOnceTakesAtMut F.FnOnce put out.old }
+    ensures short { length out.old < needed → (result ≡ packed 16 needed) × (out.new ≡ out.old) }
+    ensures written { needed ≤ length out.old → FnOnceReturnsAtMut F.FnOnce put out.old result out.new }
+{
+    if out.len() < needed {
+        return too_short(needed);
+    }
+    put(out) as u64
 }
 
 // The answer of a call that writes by itself.

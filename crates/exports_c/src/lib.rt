@@ -3,10 +3,10 @@
 #![tactic(auto)]
 
 ghost use Rattle.boxes.specs.Find.{find_box};
-ghost use Rattle.boxes.specs.Header.{header_at};
+ghost use Rattle.boxes.specs.Header.{header_at, header_refusal, header_or_blank};
 ghost use Rattle.expander.specs.EquivalentFile.{file};
 ghost use Rattle.exports.specs.Answer.{Answered, expand_refusal};
-ghost use Rattle.ftyp.specs.ReadFileType.{read_file_type};
+ghost use Rattle.ftyp.specs.ReadFileType.{read_file_type, file_type_or_blank, file_type_refusal};
 ghost use Rattle.mini.specs.Read.{read_mini};
 ghost use Rattle.layout.specs.CheckBytes.{check_bytes};
 ghost use Rattle.layout.specs.FileTypeBytes.{file_type_bytes};
@@ -17,7 +17,7 @@ ghost use Rattle.writer.specs.ToBox.{box_of};
 // Reads the header of the box at `start` of `buf`, for every buffer and every start.
 #[unsafe(no_mangle)]
 pub extern "C" fn bustardcase_box_header(buf: &[u8], start: usize, out: &mut [u8]) -> u64
-    ensures { Answered (header_at buf.now start).refusal (header_bytes (header_at buf.now start).header) out.old out.new result }
+    ensures { Answered (header_refusal (header_at buf.now start)) (header_bytes (header_or_blank (header_at buf.now start))) out.old out.new result }
 {
     exports::bustardcase_box_header(buf, start, out)
 }
@@ -55,7 +55,7 @@ pub extern "C" fn bustardcase_expand(
 // Finds the first box of a type among the boxes that follow one another from the start of `buf`, for every buffer and every type.
 #[unsafe(no_mangle)]
 pub extern "C" fn bustardcase_find_box(buf: &[u8], box_type: u32, out: &mut [u8]) -> u64
-    ensures { Answered (find_box box_type buf.now).refusal (header_bytes (find_box box_type buf.now).header) out.old out.new result }
+    ensures { Answered (header_refusal (find_box box_type buf.now)) (header_bytes (header_or_blank (find_box box_type buf.now))) out.old out.new result }
 {
     exports::bustardcase_find_box(buf, box_type, out)
 }
@@ -63,7 +63,7 @@ pub extern "C" fn bustardcase_find_box(buf: &[u8], box_type: u32, out: &mut [u8]
 // Reads the file type of the payload of an 'ftyp' box, for every payload.
 #[unsafe(no_mangle)]
 pub extern "C" fn bustardcase_file_type(body: &[u8], out: &mut [u8]) -> u64
-    ensures { Answered (read_file_type body.now).refusal (file_type_bytes (read_file_type body.now)) out.old out.new result }
+    ensures { Answered (file_type_refusal (read_file_type body.now)) (file_type_bytes (file_type_or_blank (read_file_type body.now))) out.old out.new result }
 {
     exports::bustardcase_file_type(body, out)
 }

@@ -15,15 +15,8 @@ use reader::parse;
 pub extern "C" fn bustardcase_outline(payload: &[u8], out: &mut [u8]) -> u64
     ensures { Answered (read_mini payload.now).refusal (outline_bytes payload.now) out.old out.new result }
 {
-    let reading = parse(payload);
-    let refusal = reading.refusal;
-    let image = reading.image;
-    if refusal != 0 {
-        return answer::refused(refusal);
+    match parse(payload) {
+        Ok(image) => answer::hand_out(500, out, |out| put_outline(out, 0, payload, image)),
+        Err(error) => answer::refused(error.number()),
     }
-    if out.len() < 500 {
-        return answer::too_short(500);
-    }
-    put_outline(out, 0, payload, image);
-    500
 }

@@ -34,6 +34,10 @@ among-found s b k (suc n) h e =
     let other : k ≡ n → ⊥ = λ q. eqb-false _ _ f (ap (λ (j : ℕ). num 4 s (j * 4)) (sym q) ∙ e) in
     among-found s b k n (omega arith) e)
 
+pub has_brand_at : (s : List ℕ) (b k : ℕ) → num 4 s (k * 4) ≡ b → k < length s / 4 → has_brand s b ≡ true
+unfolding has_brand
+has_brand_at s b k e h = among-found s b k (length s / 4) h e
+
 -- a brand at the end does not make another one present
 among-append : (s t : List ℕ) (b k : ℕ) → k * 4 ≤ length s → among (s ++ t) b k ≡ among s b k
 among-append s t b zero h = refl

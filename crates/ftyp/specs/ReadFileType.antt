@@ -6,7 +6,7 @@
 --
 -- Refusal 28 (docs/DECISIONS.md, 18) where the body is no original file type: the first two fields pass its end, or the brands aren't a list that
 -- expanding allows.
-use Rattle.std.specs.Prelude.{◌≡◌, Bool, true, false, cond, ℕ, ◌+◌, ◌-◌, ◌≤◌, ◌<◌, eqb, ltb, drop}
+use Rattle.std.specs.Prelude.{◌≡◌, Bool, true, false, cond, ℕ, ◌+◌, ◌-◌, ◌≤◌, ◌<◌, eqb, ltb, drop, Result, Ok, Err}
 use Rattle.std.proofs.Math.Path.{refl}
 use mathlib.Core.List.{List, [], ◌++◌, append_assoc}
 use Rattle.std.proofs.Common.{arith, lit<, length-append, drop_at, le-ltb}
@@ -14,7 +14,8 @@ use Rattle.std.proofs.Math.ListN.{length}
 use Rattle.octets.specs.BigEndian.{be, num}
 use Rattle.octets.specs.BigEndianLaws.{length-be, field_at}
 use Rattle.ftyp.specs.FileType.{VVI3, VVIC, allowed, renamed, major_of, brands_of, ftyp_body}
-use Rattle.ftyp.specs.declared.FileTypeRead.{FileTypeRead}
+use Rattle.ftyp.specs.declared.read.FileTypeBody.{FileTypeBody}
+use Rattle.ftyp.specs.declared.read.FileTypeError.{FileTypeError}
 
 -- the brands of a body
 abbrev pub brands_in : List ℕ → List ℕ
@@ -24,15 +25,30 @@ brands_in s = drop 8 s
 abbrev pub is_file_type : List ℕ → Bool
 is_file_type s = cond (ltb (length s) 8) false (allowed (brands_in s))
 
--- the refusal's number, and zeros
-abbrev pub refused : FileTypeRead
-refused = record { refusal = 28; major_brand = 0; minor_version = 0; brands_at = 0; brands_len = 0 }
+-- the refusal's number (docs/DECISIONS.md, 18)
+abbrev pub number : FileTypeError → ℕ
+number e = 28
+
+-- what reading a body hands out as a number and a file type: 0 and the file type, or the refusal's number and zeros
+abbrev pub file_type_refusal : Result FileTypeBody FileTypeError → ℕ
+file_type_refusal (Ok t) = 0
+file_type_refusal (Err e) = number e
+
+abbrev pub blank : FileTypeBody
+blank = record { major_brand = 0; minor_version = 0; brands_at = 0; brands_len = 0 }
+
+abbrev pub file_type_or_blank : Result FileTypeBody FileTypeError → FileTypeBody
+file_type_or_blank (Ok t) = t
+file_type_or_blank (Err e) = blank
+
+abbrev pub refused : Result FileTypeBody FileTypeError
+refused = Err (record {})
 
 -- a file type whose brands are the n bytes from 8 on
-abbrev pub accepted : (major minor n : ℕ) → FileTypeRead
-accepted major minor n = record { refusal = 0; major_brand = major; minor_version = minor; brands_at = 8; brands_len = n }
+abbrev pub accepted : (major minor n : ℕ) → Result FileTypeBody FileTypeError
+accepted major minor n = Ok (record { major_brand = major; minor_version = minor; brands_at = 8; brands_len = n })
 
-unfoldable pub read_file_type : List ℕ → FileTypeRead
+unfoldable pub read_file_type : List ℕ → Result FileTypeBody FileTypeError
 read_file_type s = cond (is_file_type s) (accepted (num 4 s 0) (num 4 s 4) (length s - 8)) refused
 
 -- ---- a file type that is written is read back, with its brands

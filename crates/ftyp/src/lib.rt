@@ -5,10 +5,10 @@ pub mod read;
 
 ghost use Rattle.std.specs.Prelude.{true, ◌≡◌, ◌+◌, ◌≤◌, length};
 ghost use Rattle.octets.specs.Overwrite.{Wrote};
-ghost use Rattle.ftyp.specs.FileType.{allowed, has_brand, lacks, renamed, major_of, file_type, added, added_len, file_type_body, file_type_body_len, file_type_box, file_type_len};
+ghost use Rattle.ftyp.specs.FileType.{allowed, has_brand, renamed, major_of, file_type, added, added_len, file_type_body, file_type_body_len, file_type_box, file_type_len};
 
 use boxes::{FourCc, put_box_header};
-use octets::{copy_in, get_u32, put_u32};
+use octets::{copy_in, get, put};
 
 const MIF1: FourCc = 0x6D696631;
 
@@ -23,7 +23,7 @@ const VVIC: FourCc = 0x76766963;
 const FTYP: FourCc = 0x66747970;
 
 // The compatible brands stay in the list that is lent; the flags say which are added after it.
-#[derive(Clone, Copy)]
+#[derive(Clone, Copy, Debug, PartialEq, Eq)]
 pub struct FileType {
     pub major_brand: FourCc,
     pub minor_version: u32,
@@ -32,124 +32,89 @@ pub struct FileType {
     pub add_tmap: bool,
 }
 
-// What reading the body of an 'ftyp' gives: 0, the two numbers, and where in the body the compatible brands lie; or the number of the
-// refusal and zeros.
-#[derive(Clone, Copy)]
-pub struct FileTypeRead {
-    pub refusal: u8,
-    pub major_brand: FourCc,
-    pub minor_version: u32,
-    pub brands_at: usize,
-    pub brands_len: usize,
-}
-
 // Whether a brand list is allowed: refusal 15 does not apply.
+#[tactic(auto, unfolding(crate::specs::FileType::allowed))]
 pub fn allowed(brands: &[u8]) -> bool
     ensures { result ≡ allowed brands.now }
 {
-    let n = brands.len();
-    if n % 4 == 0 {
-        return n <= 4096;
-    }
-    false
+    brands.len() % 4 == 0 && brands.len() <= 4096
 }
 
+#[tactic(auto, using(crate::specs::FileTypeLaws::has_brand_at), unfolding(crate::specs::FileType::has_brand))]
 fn has_brand(brands: &[u8], b: FourCc) -> bool
     ensures { result ≡ has_brand brands.now b }
 {
-    let n = brands.len() / 4;
-    let mut k = 0;
-    while k < n {
-        let x = get_u32(brands, k * 4);
-        if x == b {
+    for k in 0..brands.len() / 4 {
+        if get::<4>(brands, k * 4) as u32 == b {
             return true;
         }
-        k += 1;
     }
     false
 }
 
-// Whether a brand has to be added; the list is not read for one that is not wanted.
-fn lacks(brands: &[u8], b: FourCc, wanted: bool) -> bool
-    ensures { result ≡ lacks brands.now b wanted }
-{
-    if wanted {
-        let has = has_brand(brands, b);
-        return !has;
-    }
-    false
-}
-
+#[tactic(auto, unfolding(crate::specs::FileType::renamed))]
 fn renamed(major: FourCc, minor: u32) -> bool
     ensures { result ≡ renamed major minor }
 {
-    if major == MIF3 {
-        return minor != 0;
-    }
-    false
+    major == MIF3 && minor != 0
 }
 
+#[tactic(auto, unfolding(crate::specs::FileType::major_of))]
 fn major_of(major: FourCc, minor: u32) -> FourCc
     ensures { result ≡ major_of major minor }
 {
-    let new = renamed(major, minor);
-    if new {
-        if minor == VVI3 {
-            return VVIC;
-        }
-        return minor;
+    if !renamed(major, minor) {
+        major
+    } else if minor == VVI3 {
+        VVIC
+    } else {
+        minor
     }
-    major
 }
 
 // The file type of the equivalent file. The three brands differ, so the list as it is lent decides on each.
+#[tactic(auto, unfolding(crate::specs::FileType::file_type))]
 pub fn equivalent_file_type(major: FourCc, minor: u32, gain_map: bool, brands: &[u8]) -> FileType
     ensures { result ≡ file_type major minor gain_map brands.now }
 {
-    let new = renamed(major, minor);
-    let major_brand = major_of(major, minor);
-    let add_mif3 = lacks(brands, MIF3, new);
-    let add_mif1 = lacks(brands, MIF1, true);
-    let add_tmap = lacks(brands, TMAP, gain_map);
     FileType {
-        major_brand,
+        major_brand: major_of(major, minor),
         minor_version: 0,
-        add_mif3,
-        add_mif1,
-        add_tmap,
+        add_mif3: renamed(major, minor) && !has_brand(brands, MIF3),
+        add_mif1: !has_brand(brands, MIF1),
+        add_tmap: gain_map && !has_brand(brands, TMAP),
     }
 }
 
+#[tactic(auto, using(octets::specs::OverwriteLaws::nothing))]
 fn put_added(out: &mut [u8], at: usize, add: bool, b: FourCc) -> usize
     requires { at + added_len add ≤ length out.old }
     ensures { Wrote out.old at (added_len add) (added add b) out.new result }
 {
-    if add {
-        return put_u32(out, at, b);
-    }
-    at
+    if add { put::<4>(out, at, b as u64) } else { at }
 }
 
+#[tactic(auto, using(octets::specs::OverwriteLaws::writes), unfolding(crate::specs::FileType::file_type_body))]
 fn put_body(out: &mut [u8], file_type: FileType, brands: &[u8]) -> usize
     requires { file_type_body_len file_type brands.now ≤ length out.old }
     ensures { Wrote out.old 0 (file_type_body_len file_type brands.now) (file_type_body file_type brands.now) out.new result }
 {
-    let a = put_u32(out, 0, file_type.major_brand);
-    let b = put_u32(out, a, file_type.minor_version);
-    let c = copy_in(out, b, brands);
-    let d = put_added(out, c, file_type.add_mif3, MIF3);
-    let e = put_added(out, d, file_type.add_mif1, MIF1);
-    put_added(out, e, file_type.add_tmap, TMAP)
+    let at = put::<4>(out, 0, file_type.major_brand as u64);
+    let at = put::<4>(out, at, file_type.minor_version as u64);
+    let at = copy_in(out, at, brands);
+    let at = put_added(out, at, file_type.add_mif3, MIF3);
+    let at = put_added(out, at, file_type.add_mif1, MIF1);
+    put_added(out, at, file_type.add_tmap, TMAP)
 }
 
 // The 'ftyp' box of a file type, with the brands lent.
+#[tactic(auto, using(crate::specs::FileTypeLaws::allowed_short, crate::specs::FileTypeLaws::file_type_most))]
 pub fn put_ftyp(out: &mut [u8], at: usize, file_type: FileType, brands: &[u8]) -> usize
     requires room { at + file_type_len file_type brands.now ≤ length out.old }
     requires allowed { allowed brands.now ≡ true }
     ensures { Wrote out.old at (file_type_len file_type brands.now) (file_type_box file_type brands.now) out.new result }
 {
-    let body = at + 8;
-    let n = put_body(&mut out[body..], file_type, brands);
+    let n = put_body(&mut out[at + 8..], file_type, brands);
     put_box_header(out, at, n, FTYP)
 }
 
@@ -160,12 +125,13 @@ fn added_len(add: bool) -> usize
 }
 
 // How many bytes `put_ftyp` writes.
+#[tactic(auto, using(crate::specs::FileTypeLaws::allowed_short))]
 pub fn ftyp_len(file_type: FileType, brands: &[u8]) -> usize
     requires { allowed brands.now ≡ true }
     ensures { (result ≡ file_type_len file_type brands.now) × (result ≤ 4124) }
 {
-    let a = added_len(file_type.add_mif3);
-    let b = added_len(file_type.add_mif1);
-    let c = added_len(file_type.add_tmap);
-    16 + brands.len() + a + b + c
+    16 + brands.len()
+        + added_len(file_type.add_mif3)
+        + added_len(file_type.add_mif1)
+        + added_len(file_type.add_tmap)
 }

@@ -1,41 +1,45 @@
 // The payload of an 'ftyp' box read: `FileType::parse` of ftyp.rs.
 ghost use Rattle.std.specs.Prelude.{◌≡◌};
-ghost use Rattle.ftyp.specs.ReadFileType.{refused, read_file_type};
+ghost use Rattle.ftyp.specs.ReadFileType.{number, read_file_type};
 
-use crate::{FileTypeRead, allowed};
-use octets::get_u32;
+use crate::allowed;
+use boxes::FourCc;
+use octets::get;
 
-fn refuse() -> FileTypeRead
-    ensures { result ≡ refused }
-{
-    FileTypeRead {
-        refusal: 28,
-        major_brand: 0,
-        minor_version: 0,
-        brands_at: 0,
-        brands_len: 0,
+// The body of an 'ftyp': two numbers, and where in the body the compatible brands lie.
+#[derive(Clone, Copy, Debug, PartialEq, Eq)]
+pub struct FileTypeBody {
+    pub major_brand: FourCc,
+    pub minor_version: u32,
+    pub brands_at: usize,
+    pub brands_len: usize,
+}
+
+// The body is no original file type: it is shorter than its two numbers, or its brands are no list that expanding allows.
+#[derive(Clone, Copy, Debug, PartialEq, Eq)]
+pub struct FileTypeError;
+
+impl FileTypeError {
+    // The number of the refusal.
+    pub fn number(self) -> u8
+        ensures { result ≡ number self }
+    {
+        28
     }
 }
 
 // The file type of a body, for every body.
-pub fn read_file_type(body: &[u8]) -> FileTypeRead
+#[tactic(auto, unfolding(crate::specs::ReadFileType::read_file_type))]
+pub fn read_file_type(body: &[u8]) -> Result<FileTypeBody, FileTypeError>
     ensures { result ≡ read_file_type body.now }
 {
-    let n = body.len();
-    if n < 8 {
-        return refuse();
+    if body.len() < 8 || !allowed(&body[8..]) {
+        return Err(FileTypeError);
     }
-    let whole = allowed(&body[8..]);
-    if whole {
-        let major_brand = get_u32(body, 0);
-        let minor_version = get_u32(body, 4);
-        return FileTypeRead {
-            refusal: 0,
-            major_brand,
-            minor_version,
-            brands_at: 8,
-            brands_len: n - 8,
-        };
-    }
-    refuse()
+    Ok(FileTypeBody {
+        major_brand: get::<4>(body, 0) as u32,
+        minor_version: get::<4>(body, 4) as u32,
+        brands_at: 8,
+        brands_len: body.len() - 8,
+    })
 }

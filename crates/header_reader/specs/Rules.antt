@@ -1,5 +1,5 @@
 -- Rules for the parts of the header that are no plain sequence: a cclv, the trailing bits, what is left out without the HDR flag.
-use Rattle.std.specs.Prelude.{◌≡◌, Bool, false, List, ℕ, eqb}
+use Rattle.std.specs.Prelude.{◌≡◌, Bool, false, List, ℕ, eqb, None}
 use Rattle.std.proofs.Common.{sym, ap, ap₂, ◌∙◌}
 use Rattle.bits.specs.State.{State, read_bytes, test}
 use Rattle.bits.specs.Format.{Format, field, padded37, view, ◌>>=◌}
@@ -9,7 +9,6 @@ use Rattle.mini.specs.Read.{bits_to_boundary, past_trailing_bits}
 use Rattle.mini.specs.Syntax.{chroma, tmap_cicp, gain_map_dimension, gain_map_format, gain_map_header, cclv, cclv_for, hdr_boxes, trailing_bits}
 use Rattle.mini.specs.Cclv.{cclv_more}
 use Rattle.mini.specs.declared.SampleFormat.TheVariants.{Integer}
-use Rattle.mini.specs.declared.TmapCicp.TheVariants as tmap-is
 use Rattle.mini.specs.declared.Dimensions.{Dimensions}
 use Rattle.mini.specs.declared.GainMapHeader.{GainMapHeader}
 use Rattle.mini.specs.declared.MiniHdrBoxes.{MiniHdrBoxes}
@@ -47,7 +46,7 @@ no_gain_map =
       format = Integer 0;
       tmap_icc = false;
       tmap_explicit_cicp = false;
-      tmap_cicp = tmap-is.Absent;
+      tmap_cicp = None;
     }
 
 pub run_no_gain_map : {s : List ℕ} {b : State} {v : GainMapHeader} (t : Bool) (d : Dimensions) → t ≡ false → v ≡ no_gain_map → Run (gain_map_header t d) s b v b

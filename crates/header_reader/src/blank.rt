@@ -3,7 +3,7 @@ ghost use Rattle.std.specs.Prelude.{◌≡◌};
 ghost use Rattle.mini.specs.Blank.{blank_hdr_boxes};
 ghost use Rattle.header_reader.specs.Rules.{no_gain_map};
 
-use mini::{GainMapHeader, MiniChroma, MiniHdrBoxes, SampleFormat, TmapCicp};
+use mini::{GainMapHeader, MiniChroma, MiniHdrBoxes, SampleFormat};
 
 pub fn blank_hdr_boxes() -> MiniHdrBoxes
     ensures { result ≡ blank_hdr_boxes }
@@ -45,6 +45,6 @@ pub fn no_gain_map() -> GainMapHeader
         format: SampleFormat::Integer { bits: 0 },
         tmap_icc: false,
         tmap_explicit_cicp: false,
-        tmap_cicp: TmapCicp::Absent,
+        tmap_cicp: None,
     }
 }

@@ -15,92 +15,68 @@ pub mod hdr_boxes;
 pub mod sizes;
 
 use bits::Bits;
+use blank::{blank_hdr_boxes, no_gain_map};
+use fields::{read_dimensions, read_flags, read_main_format};
+use gain_map::read_gain_map_header;
+use hdr_boxes::{read_hdr_boxes, read_hdr_boxes_if};
 use mini::{Dimensions, GainMapHeader, Header, MiniHdrBoxes};
+use sizes::read_sizes;
 
+// What the HDR flag brings.
 #[derive(Clone, Copy)]
-pub struct HdrPartRead {
+pub struct HdrPart {
     pub gain_map: GainMapHeader,
     pub hdr_boxes: MiniHdrBoxes,
     pub tmap_hdr: MiniHdrBoxes,
-    pub next: Bits,
 }
 
-#[derive(Clone, Copy)]
-pub struct HeaderRead {
-    pub value: Header,
-    pub next: Bits,
-}
-
-fn read_present_hdr_part(b: Bits, payload: &[u8], d: Dimensions) -> HdrPartRead
-    ensures { Run (hdr_part true d) payload.now (state b) (result.gain_map, (result.hdr_boxes, result.tmap_hdr)) (state result.next) }
+fn read_present_hdr_part(b: Bits, payload: &[u8], d: Dimensions) -> (HdrPart, Bits)
+    ensures { Run (hdr_part true d) payload.now (state b) (result.0.gain_map, (result.0.hdr_boxes, result.0.tmap_hdr)) (state result.1) }
 {
-    let g = gain_map::read_gain_map_header(b, payload, d);
-    let gain_map = g.value;
-    let b1 = g.next;
-    let h = hdr_boxes::read_hdr_boxes(b1, payload);
-    let hdr_boxes = h.value;
-    let b2 = h.next;
-    let t = hdr_boxes::read_hdr_boxes_if(b2, payload, gain_map.present);
-    let tmap_hdr = t.value;
-    let next = t.next;
-    HdrPartRead {
+    let (gain_map, b) = read_gain_map_header(b, payload, d);
+    let (hdr_boxes, b) = read_hdr_boxes(b, payload);
+    let (tmap_hdr, b) = read_hdr_boxes_if(b, payload, gain_map.present);
+    let part = HdrPart {
         gain_map,
         hdr_boxes,
         tmap_hdr,
-        next,
-    }
+    };
+    (part, b)
 }
 
 // Nothing is read where the flag is not set: most pictures have no HDR part.
-fn read_hdr_part(b: Bits, payload: &[u8], hdr: bool, d: Dimensions) -> HdrPartRead
-    ensures { Run (hdr_part hdr d) payload.now (state b) (result.gain_map, (result.hdr_boxes, result.tmap_hdr)) (state result.next) }
+fn read_hdr_part(b: Bits, payload: &[u8], hdr: bool, d: Dimensions) -> (HdrPart, Bits)
+    ensures { Run (hdr_part hdr d) payload.now (state b) (result.0.gain_map, (result.0.hdr_boxes, result.0.tmap_hdr)) (state result.1) }
 {
     if hdr {
         read_present_hdr_part(b, payload, d)
     } else {
-        let gain_map = blank::no_gain_map();
-        let hdr_boxes = blank::blank_hdr_boxes();
-        let tmap_hdr = blank::blank_hdr_boxes();
-        HdrPartRead {
-            gain_map,
-            hdr_boxes,
-            tmap_hdr,
-            next: b,
-        }
+        let part = HdrPart {
+            gain_map: no_gain_map(),
+            hdr_boxes: blank_hdr_boxes(),
+            tmap_hdr: blank_hdr_boxes(),
+        };
+        (part, b)
     }
 }
 
-pub fn read_header(b: Bits, payload: &[u8]) -> HeaderRead
-    ensures run { Run header payload.now (state b) result.value (state result.next) }
-    ensures sizes_bound { sum (stored_sizes result.value.sizes) ≤ 2952790016 }
+pub fn read_header(b: Bits, payload: &[u8]) -> (Header, Bits)
+    ensures run { Run header payload.now (state b) result.0 (state result.1) }
+    ensures sizes_bound { sum (stored_sizes result.0.sizes) ≤ 2952790016 }
 {
-    let f = fields::read_flags(b, payload);
-    let flags = f.value;
-    let b1 = f.next;
-    let d = fields::read_dimensions(b1, payload);
-    let dimensions = d.value;
-    let b2 = d.next;
-    let m = fields::read_main_format(b2, payload, flags);
-    let main = m.value;
-    let b3 = m.next;
-    let h = read_hdr_part(b3, payload, flags.hdr, dimensions);
-    let gain_map = h.gain_map;
-    let hdr_boxes = h.hdr_boxes;
-    let tmap_hdr = h.tmap_hdr;
-    let b4 = h.next;
-    let z = sizes::read_sizes(b4, payload, flags, gain_map);
-    let sizes = z.value;
-    let next = z.next;
-    HeaderRead {
-        value: Header {
-            flags,
-            dimensions,
-            main,
-            gain_map,
-            hdr_boxes,
-            tmap_hdr,
-            sizes,
-        },
-        next,
-    }
+    let (flags, b) = read_flags(b, payload);
+    let (dimensions, b) = read_dimensions(b, payload);
+    let (main, b) = read_main_format(b, payload, flags);
+    let (part, b) = read_hdr_part(b, payload, flags.hdr, dimensions);
+    let (sizes, b) = read_sizes(b, payload, flags, part.gain_map);
+    let header = Header {
+        flags,
+        dimensions,
+        main,
+        gain_map: part.gain_map,
+        hdr_boxes: part.hdr_boxes,
+        tmap_hdr: part.tmap_hdr,
+        sizes,
+    };
+    (header, b)
 }

@@ -7,7 +7,7 @@ ghost use Rattle.items.specs.ItemInfo.{infe_fields, infe, infe_len, exif_type, c
 use crate::{ItemSet, len_if};
 use boxes::{FourCc, put_box_header, put_full_box_header};
 use mini::ItemKind;
-use octets::{copy_in, put_u8, put_u16, put_u32};
+use octets::{copy_in, put, put_u8};
 
 const IINF: FourCc = 0x69696E66;
 
@@ -26,34 +26,37 @@ const SHOWN: u32 = 0;
 
 const HIDDEN: u32 = 1;
 
+#[tactic(auto, using(octets::specs::OverwriteLaws::writes), unfolding(crate::specs::ItemInfo::infe_fields))]
 fn put_infe_fields(out: &mut [u8], id: u16, flags: u32, item_type: FourCc) -> usize
     requires { 13 ≤ length out.old }
     ensures { Wrote out.old 0 13 (infe_fields id flags item_type) out.new result }
 {
-    let a = put_full_box_header(out, 0, 2, flags);
-    let b = put_u16(out, a, id);
-    let c = put_u16(out, b, 0);
-    let d = put_u32(out, c, item_type);
-    put_u8(out, d, 0)
+    let at = put_full_box_header(out, 0, 2, flags);
+    let at = put::<2>(out, at, id as u64);
+    let at = put::<2>(out, at, 0);
+    let at = put::<4>(out, at, item_type as u64);
+    put_u8(out, at, 0)
 }
 
+#[tactic(auto, using(boxes::specs::Boxed::boxes), unfolding(crate::specs::ItemInfo::infe))]
 fn put_infe(out: &mut [u8], at: usize, id: u16, flags: u32, item_type: FourCc) -> usize
     requires { at + infe_len ≤ length out.old }
     ensures { Wrote out.old at infe_len (infe id flags item_type) out.new result }
 {
-    let body = at + 8;
-    let n = put_infe_fields(&mut out[body..], id, flags, item_type);
+    let n = put_infe_fields(&mut out[at + 8..], id, flags, item_type);
     put_box_header(out, at, n, INFE)
 }
 
+#[tactic(auto, using(octets::specs::OverwriteLaws::nothing))]
 fn put_infe_if(out: &mut [u8], at: usize, on: bool, id: u16, flags: u32, item_type: FourCc) -> usize
     requires { at + len_if on infe_len ≤ length out.old }
     ensures { Wrote out.old at (len_if on infe_len) (bytes_if on (infe id flags item_type)) out.new result }
 {
     if on {
-        return put_infe(out, at, id, flags, item_type);
+        put_infe(out, at, id, flags, item_type)
+    } else {
+        at
     }
-    at
 }
 
 fn exif_type(compressed: bool) -> FourCc
@@ -74,85 +77,82 @@ fn put_content_encoding(out: &mut [u8], at: usize, compressed: bool) -> usize
     ensures { Wrote out.old at (encoding_len compressed) (content_encoding compressed) out.new result }
 {
     if compressed {
-        return copy_in(out, at, b"deflate\0");
+        copy_in(out, at, b"deflate\0")
+    } else {
+        put_u8(out, at, 0)
     }
-    put_u8(out, at, 0)
 }
 
+#[tactic(auto, using(octets::specs::OverwriteLaws::writes), unfolding(crate::specs::ItemInfo::mime_fields))]
 fn put_mime_fields(out: &mut [u8], compressed: bool) -> usize
     requires { 33 + encoding_len compressed ≤ length out.old }
     ensures { Wrote out.old 0 (33 + encoding_len compressed) (mime_fields compressed) out.new result }
 {
-    let a = put_infe_fields(out, ItemKind::XMP, HIDDEN, MIME);
-    let b = put_content_type(out, a);
-    put_content_encoding(out, b, compressed)
+    let at = put_infe_fields(out, ItemKind::XMP, HIDDEN, MIME);
+    let at = put_content_type(out, at);
+    put_content_encoding(out, at, compressed)
 }
 
+#[tactic(auto, using(boxes::specs::Boxed::boxes), unfolding(crate::specs::ItemInfo::mime))]
 fn put_mime(out: &mut [u8], at: usize, compressed: bool) -> usize
     requires { at + mime_len compressed ≤ length out.old }
     ensures { Wrote out.old at (mime_len compressed) (mime compressed) out.new result }
 {
-    let body = at + 8;
-    let n = put_mime_fields(&mut out[body..], compressed);
+    let n = put_mime_fields(&mut out[at + 8..], compressed);
     put_box_header(out, at, n, INFE)
 }
 
+#[tactic(auto, using(octets::specs::OverwriteLaws::nothing))]
 fn put_mime_if(out: &mut [u8], at: usize, on: bool, compressed: bool) -> usize
     requires { at + len_if on (mime_len compressed) ≤ length out.old }
     ensures { Wrote out.old at (len_if on (mime_len compressed)) (bytes_if on (mime compressed)) out.new result }
 {
     if on {
-        return put_mime(out, at, compressed);
+        put_mime(out, at, compressed)
+    } else {
+        at
     }
-    at
 }
 
+#[tactic(auto, using(octets::specs::OverwriteLaws::writes))]
 fn put_entries(out: &mut [u8], at: usize, s: ItemSet) -> usize
     requires { at + entries_len s ≤ length out.old }
     ensures { Wrote out.old at (entries_len s) (entry_bytes s) out.new result }
 {
     let exif_type = exif_type(s.compressed);
-    let a = put_infe(out, at, ItemKind::MAIN, SHOWN, s.item_type);
-    let b = put_infe_if(out, a, s.alpha, ItemKind::ALPHA, HIDDEN, s.item_type);
-    let c = put_infe_if(out, b, s.tone_map, ItemKind::TMAP, SHOWN, TMAP);
-    let d = put_infe_if(out, c, s.gain_map, ItemKind::GAIN_MAP, HIDDEN, s.item_type);
-    let e = put_infe_if(out, d, s.exif, ItemKind::EXIF, HIDDEN, exif_type);
-    put_mime_if(out, e, s.xmp, s.compressed)
-}
-
-fn one_if(on: bool) -> u16
-    ensures { (result ≡ len_if on 1) × (result ≤ 1) }
-{
-    if on { 1 } else { 0 }
+    let at = put_infe(out, at, ItemKind::MAIN, SHOWN, s.item_type);
+    let at = put_infe_if(out, at, s.alpha, ItemKind::ALPHA, HIDDEN, s.item_type);
+    let at = put_infe_if(out, at, s.tone_map, ItemKind::TMAP, SHOWN, TMAP);
+    let at = put_infe_if(out, at, s.gain_map, ItemKind::GAIN_MAP, HIDDEN, s.item_type);
+    let at = put_infe_if(out, at, s.exif, ItemKind::EXIF, HIDDEN, exif_type);
+    put_mime_if(out, at, s.xmp, s.compressed)
 }
 
 fn entry_count(s: ItemSet) -> u16
     ensures { result ≡ entry_count s }
 {
-    let a = one_if(s.alpha);
-    let t = one_if(s.tone_map);
-    let g = one_if(s.gain_map);
-    let e = one_if(s.exif);
-    let x = one_if(s.xmp);
-    1 + a + t + g + e + x
+    1 + u16::from(s.alpha)
+        + u16::from(s.tone_map)
+        + u16::from(s.gain_map)
+        + u16::from(s.exif)
+        + u16::from(s.xmp)
 }
 
 fn put_iinf_body(out: &mut [u8], s: ItemSet) -> usize
     requires { 6 + entries_len s ≤ length out.old }
     ensures { Wrote out.old 0 (6 + entries_len s) (iinf_body s) out.new result }
 {
-    let count = entry_count(s);
-    let a = put_full_box_header(out, 0, 0, 0);
-    let b = put_u16(out, a, count);
-    put_entries(out, b, s)
+    let at = put_full_box_header(out, 0, 0, 0);
+    let at = put::<2>(out, at, entry_count(s) as u64);
+    put_entries(out, at, s)
 }
 
+#[tactic(auto, using(boxes::specs::Boxed::boxes, crate::specs::ItemInfo::iinf_most), unfolding(crate::specs::ItemInfo::iinf))]
 pub fn put_iinf(out: &mut [u8], at: usize, s: ItemSet) -> usize
     requires { at + iinf_len s ≤ length out.old }
     ensures { Wrote out.old at (iinf_len s) (iinf s) out.new result }
 {
-    let body = at + 8;
-    let n = put_iinf_body(&mut out[body..], s);
+    let n = put_iinf_body(&mut out[at + 8..], s);
     put_box_header(out, at, n, IINF)
 }
 
@@ -166,11 +166,9 @@ fn mime_len(compressed: bool) -> usize
 pub fn iinf_len(s: ItemSet) -> usize
     ensures { (result ≡ iinf_len s) × (result ≤ 168) }
 {
-    let a = len_if(s.alpha, 21);
-    let t = len_if(s.tone_map, 21);
-    let g = len_if(s.gain_map, 21);
-    let e = len_if(s.exif, 21);
-    let m = mime_len(s.compressed);
-    let x = len_if(s.xmp, m);
-    35 + a + t + g + e + x
+    35 + len_if(s.alpha, 21)
+        + len_if(s.tone_map, 21)
+        + len_if(s.gain_map, 21)
+        + len_if(s.exif, 21)
+        + len_if(s.xmp, mime_len(s.compressed))
 }

@@ -4,35 +4,32 @@ ghost use Rattle.octets.specs.Overwrite.{Wrote};
 ghost use Rattle.layout.specs.PartBytes.{flag_bytes, chunk_bytes, span_bytes};
 
 use mini::{Chunk, Span};
-use octets::{put_u8, put_u64, put_zeros};
+use octets::{put, put_u8, put_zeros};
 
 pub fn put_flag(out: &mut [u8], at: usize, on: bool) -> usize
     requires { at + 1 ≤ length out.old }
     ensures { Wrote out.old at 1 (flag_bytes on) out.new result }
 {
-    if on {
-        put_u8(out, at, 1)
-    } else {
-        put_u8(out, at, 0)
-    }
+    put_u8(out, at, u8::from(on))
 }
 
-pub fn put_chunk(out: &mut [u8], at: usize, c: Chunk) -> usize
-    requires { at + 17 ≤ length out.old }
-    ensures { Wrote out.old at 17 (chunk_bytes c) out.new result }
-{
-    let Chunk::Present { at: place, len } = c else {
-        return put_zeros(out, at, 17);
-    };
-    let a = put_u8(out, at, 1);
-    let b = put_u64(out, a, place as u64);
-    put_u64(out, b, len as u64)
-}
-
+#[tactic(auto, using(octets::specs::OverwriteLaws::writes), unfolding(crate::specs::PartBytes::span_bytes))]
 pub fn put_span(out: &mut [u8], at: usize, s: Span) -> usize
     requires { at + 16 ≤ length out.old }
     ensures { Wrote out.old at 16 (span_bytes s) out.new result }
 {
-    let a = put_u64(out, at, s.at as u64);
-    put_u64(out, a, s.len as u64)
+    let at = put::<8>(out, at, s.at as u64);
+    put::<8>(out, at, s.len as u64)
+}
+
+#[tactic(auto, using(octets::specs::OverwriteLaws::writes))]
+pub fn put_chunk(out: &mut [u8], at: usize, c: Chunk) -> usize
+    requires { at + 17 ≤ length out.old }
+    ensures { Wrote out.old at 17 (chunk_bytes c) out.new result }
+{
+    let Some(span) = c else {
+        return put_zeros(out, at, 17);
+    };
+    let at = put_u8(out, at, 1);
+    put_span(out, at, span)
 }

@@ -9,13 +9,12 @@ use Rattle.mini.specs.Chunks.{stored_sizes}
 use Rattle.mini.specs.Cut.{sum, joined, cut, cut-joined, length-joined, within_of, of_within}
 use Rattle.mini.specs.Image.{image_of}
 use Rattle.mini.specs.Payload.{header_bits, chunks_start, header-bytes, Reads, accepted, reads_back, reads_inv, reads_image, found}
-use Rattle.mini.specs.Read.{bits_to_boundary, read_mini}
+use Rattle.mini.specs.Read.{bits_to_boundary, read_mini, Reading}
 use Rattle.mini.proofs.RecordHeader.{chunks_again}
 use Rattle.mini.specs.Same.{chunks_of}
 use Rattle.mini.specs.Syntax.{header, trailing_bits}
 use Rattle.mini.specs.declared.Header.{Header}
 use Rattle.mini.specs.declared.MinimizedImage.{MinimizedImage}
-use Rattle.mini.specs.declared.Reading.{Reading}
 use Rattle.mini.specs.AcceptedBits.{Accepted}
 
 zeros_snoc : (n : ℕ) (l : List Bool) → replicate n false ++ (false ∷ l) ≡ false ∷ (replicate n false ++ l)

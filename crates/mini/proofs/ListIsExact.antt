@@ -1,14 +1,13 @@
 -- The list of what no payload gives (NoPayloadGives) is complete: a record that has none of its faults can be written. So the list and
 -- refusal 11 say the same. Document 01, 'The record and its order of bits' ('No payload gives: ..'). Assumes nothing.
-use Rattle.std.specs.Prelude.{◌≡◌, refl, Bool, ◌&&◌, ◌||◌, ◌↔◌, ℕ, ◌^◌, ◌≤◌, ◌<◌, T, ltb}
+use Rattle.std.specs.Prelude.{◌≡◌, refl, Bool, ◌&&◌, ◌||◌, ◌↔◌, ℕ, ◌^◌, ◌≤◌, ◌<◌, T, ltb, Option, Some, None, is_some}
 use Rattle.std.proofs.Common.{ap, true≢false, arith, ltb→lt, lit≤, ltb-false}
 use Rattle.std.proofs.Math.Path.{subst}
 use Rattle.std.proofs.Math.Bool.{true, false}
 use Rattle.bits.specs.Format.{Format, ◌>>=◌, and_join, field, flag, minus1, number, field_if, minus1_if, sized, choose, view}
 use Rattle.mini.specs.Syntax.{header, flags, dimensions, main_format, gain_map_header, gain_map_dimension, chunk_sizes}
-use Rattle.mini.specs.Views.{is_float, has_tmap_cicp}
+use Rattle.mini.specs.Views.{is_float}
 use Rattle.mini.specs.Blank.{blank_hdr_boxes, blank_gain_map}
-use Rattle.mini.specs.Chunks.{is_present}
 use Rattle.mini.specs.Same.{chunk_len, unplaced_chunk, unplaced}
 use Rattle.mini.specs.Write.{not_empty, Choices, header_with, header_of, writable}
 use Rattle.mini.specs.RecordHeader.{whole}
@@ -16,9 +15,8 @@ use Rattle.mini.specs.OptionalFields.{or_none, flag_good, flag_if_good}
 use Rattle.mini.proofs.Narrowest.{least_good}
 use Rattle.mini.specs.Ranges.{Within, format_iff, gain_format_iff, cicp_iff, types_iff, tmap_iff, chroma_iff, boxes_iff}
 use Rattle.mini.specs.NoPayloadGives.{Lawful, lawful}
-use Rattle.mini.specs.declared.Chunk.{Chunk}
-use Rattle.mini.specs.declared.Chunk.TheVariants.{Absent, Present}
 use Rattle.mini.specs.declared.MiniGainMap.{MiniGainMap}
+use Rattle.mini.specs.declared.Span.{Span}
 use Rattle.mini.specs.declared.MinimizedImage.{MinimizedImage}
 
 -- ---- a number in its range fits its field
@@ -37,10 +35,10 @@ wide_good p true false a b v h g = absurd (true≢false (h refl))
 wide_good p false w a b v h g = g
 
 -- a chunk that is not held as present and empty
-chunk_good : (c : Chunk) (w : Bool) (a b : ℕ) → (w ≡ false → is_present c ≡ false) → T (not_empty c) → chunk_len c ≤ 2 ^ a
-    → (minus1_if (is_present c) (sized w a b)).Good (chunk_len c)
-chunk_good Absent w a b z e h = refl
-chunk_good (Present at len) w a b z e h = wide_good minus1 true w a b len z (minus1_good a len (ltb→lt 0 len e, h))
+chunk_good : (c : Option Span) (w : Bool) (a b : ℕ) → (w ≡ false → is_some c ≡ false) → T (not_empty c) → chunk_len c ≤ 2 ^ a
+    → (minus1_if (is_some c) (sized w a b)).Good (chunk_len c)
+chunk_good None w a b z e h = refl
+chunk_good (Some x) w a b z e h = wide_good minus1 true w a b x.len z (minus1_good a x.len (ltb→lt 0 x.len e, h))
 
 -- a configuration, whose size stands only with its n bytes of data
 config_good : (t : Bool) (n v : ℕ) → (t ≡ false → n ≡ 0) → (n ≡ 0 → v ≡ 0) → v ≤ 4095 → (field_if (t && ltb 0 n) 12).Good v
@@ -60,24 +58,24 @@ and_second : (a b : Bool) → (a ≡ false → b ≡ false) → b ≡ (a && b)
 and_second true b h = refl
 and_second false b h = h refl
 
-absent : (c : Chunk) → unplaced_chunk c ≡ Absent → is_present c ≡ false
-absent Absent e = refl
-absent (Present at len) e = ap is_present e
+absent : (c : Option Span) → unplaced_chunk c ≡ None → is_some c ≡ false
+absent None e = refl
+absent (Some x) e = ap is_some e
 
 -- ---- the header with each field in its wide form; the narrowest forms fit then too (`least_good`)
 -- what large_metadata_flag stands with
 abbrev has_metadata : MinimizedImage → Bool
-has_metadata i = is_present i.icc || is_present i.exif || is_present i.xmp || i.has_gain_map
+has_metadata i = is_some i.icc || is_some i.exif || is_some i.xmp || i.has_gain_map
 
 abbrev widest : MinimizedImage → Choices
 widest i = record { large = true; same = false; metadata = has_metadata i; config = true; item = true }
 
 none_has : (i : MinimizedImage) → has_metadata i ≡ false
-    → (is_present i.icc ≡ false) × (is_present i.exif ≡ false) × (is_present i.xmp ≡ false) × (i.has_gain_map ≡ false)
+    → (is_some i.icc ≡ false) × (is_some i.exif ≡ false) × (is_some i.xmp ≡ false) × (i.has_gain_map ≡ false)
 none_has i e =
-    let a = or_none (is_present i.icc || is_present i.exif || is_present i.xmp) i.has_gain_map e in
-    let b = or_none (is_present i.icc || is_present i.exif) (is_present i.xmp) a.0 in
-    let c = or_none (is_present i.icc) (is_present i.exif) b.0 in
+    let a = or_none (is_some i.icc || is_some i.exif || is_some i.xmp) i.has_gain_map e in
+    let b = or_none (is_some i.icc || is_some i.exif) (is_some i.xmp) a.0 in
+    let c = or_none (is_some i.icc) (is_some i.exif) b.0 in
     (c.0, c.1, b.1, a.1)
 
 module _ (i : MinimizedImage) (l : Lawful i) where
@@ -107,7 +105,7 @@ module _ (i : MinimizedImage) (l : Lawful i) where
   blank : {A : Type 0} (part : MiniGainMap → A) → i.has_gain_map ≡ false → part (unplaced i).gain_map ≡ part blank_gain_map
   blank part e = ap part (l.gain_blank e)
 
-  no_tmap_icc : i.has_gain_map ≡ false → is_present i.gain_map.tmap_icc ≡ false
+  no_tmap_icc : i.has_gain_map ≡ false → is_some i.gain_map.tmap_icc ≡ false
   unfolding unplaced
   no_tmap_icc e = absent i.gain_map.tmap_icc (blank (λ (m : MiniGainMap). m.tmap_icc) e)
 
@@ -130,8 +128,8 @@ module _ (i : MinimizedImage) (l : Lawful i) where
       let chroma = (chroma_iff m.chroma).1 l.gain_centred in
       let float = flag_if_good has (is_float m.format) (blank (λ (x : MiniGainMap). is_float x.format)) in
       let format = (gain_format_iff has m.format).1 (blank (λ (x : MiniGainMap). x.format), l.gain_format) in
-      let icc = flag_if_good has (is_present m.tmap_icc) no_tmap_icc in
-      let explicit = flag_if_good has (has_tmap_cicp m.tmap_cicp) (blank (λ (x : MiniGainMap). has_tmap_cicp x.tmap_cicp)) in
+      let icc = flag_if_good has (is_some m.tmap_icc) no_tmap_icc in
+      let explicit = flag_if_good has (is_some m.tmap_cicp) (blank (λ (x : MiniGainMap). is_some x.tmap_cicp)) in
       let cicp = (tmap_iff m.tmap_cicp).1 l.tmap_cicp in
       ((present, (same, (width, (height, (matrix, (full, (subsampling, (chroma, (float, (format, (icc, (explicit, cicp)))))))))))), refl)
 
@@ -145,7 +143,7 @@ module _ (i : MinimizedImage) (l : Lawful i) where
       let no-data = blank (λ (x : MiniGainMap). x.«data».len) in
       let large-metadata = flag_if_good large large (λ e. e) in
       let icc = chunk_good i.icc large 20 10 (λ e. (none e).0) l.icc_empty l.icc_size in
-      let tmap_icc = subst (λ (t : Bool). (minus1_if t (sized large 20 10)).Good (chunk_len m.tmap_icc)) (and_second has (is_present m.tmap_icc) no_tmap_icc)
+      let tmap_icc = subst (λ (t : Bool). (minus1_if t (sized large 20 10)).Good (chunk_len m.tmap_icc)) (and_second has (is_some m.tmap_icc) no_tmap_icc)
       (chunk_good m.tmap_icc large 20 10 (λ e. no_tmap_icc (none e).3) l.tmap_icc_empty l.tmap_icc_size) in
       let metadata = wide_good field has large 20 10 m.metadata.len (λ e. (none e).3)
       (field_if_good has 20 m.metadata.len (blank (λ (x : MiniGainMap). x.metadata.len)) (omega (arith, l.metadata_size))) in
@@ -155,7 +153,7 @@ module _ (i : MinimizedImage) (l : Lawful i) where
       let main_data = minus1_good 28 i.main_data.len (l.main_data, l.main_size) in
       let alpha_data = field_if_good i.alpha 28 i.alpha_data.len l.alpha_bytes (omega (arith, l.alpha_size)) in
       let alpha_config = config_good i.alpha i.alpha_data.len (chunk_len i.alpha_codec_config) l.alpha_bytes l.alpha_config_alone l.config_size.1 in
-      let compressed = flag_if_good (is_present i.exif || is_present i.xmp) i.exif_xmp_compressed l.compressed in
+      let compressed = flag_if_good (is_some i.exif || is_some i.xmp) i.exif_xmp_compressed l.compressed in
       let exif = chunk_good i.exif large 20 10 (λ e. (none e).1) l.exif_empty l.exif_size in
       let xmp = chunk_good i.xmp large 20 10 (λ e. (none e).2) l.xmp_empty l.xmp_size in
       ((large-metadata, (flag_good true, (flag_good true, (icc, (tmap_icc, (metadata, (gain-data, (gain-config, (main_config, (main_data, (alpha_data, (alpha_config, (compressed, (exif, xmp)))))))))))))), refl)

@@ -1,6 +1,6 @@
 -- The narrowest choices of width: a record that some choices print is printed by the narrowest too, and any other choices cost nine
 -- bits more at least. Assumes nothing.
-use Rattle.std.specs.Prelude.{◌≡◌, Bool, false, ◌&&◌, ◌||◌, ℕ, ◌+◌, ◌-◌, ◌*◌, ◌^◌, ◌≤◌, ◌<◌, eqb, length}
+use Rattle.std.specs.Prelude.{◌≡◌, Bool, false, ◌&&◌, ◌||◌, ℕ, ◌+◌, ◌-◌, ◌*◌, ◌^◌, ◌≤◌, ◌<◌, eqb, length, is_some}
 use Rattle.std.proofs.Math.Path.{refl}
 use Rattle.std.proofs.Common.{sym, ◌∙◌, subst, true≢false, lt_of_lt_of_le, mul-add, arith, lit≤, pow_mono, pow_pos, length-append, ltb-false, le-ltb, eq-eqb, eqb-true}
 use Rattle.std.proofs.Math.Bool.{true}
@@ -10,7 +10,6 @@ use Rattle.bits.specs.Format.{◌>>=◌, field_if, minus1_if, flag_if, sized, vi
 use Rattle.bits.specs.Bit.{to_n, length-bits_n}
 use Rattle.mini.specs.Syntax.{header, dimensions, gain_map_header, gain_map_dimension, chunk_sizes}
 use Rattle.mini.specs.RecordHeader.{parts, whole}
-use Rattle.mini.specs.Chunks.{is_present}
 use Rattle.mini.specs.Same.{chunk_len}
 use Rattle.mini.specs.Write.{Choices, least, header_with}
 use Rattle.mini.specs.declared.MinimizedImage.{MinimizedImage}
@@ -143,11 +142,11 @@ module _ (i : MinimizedImage) (c : Choices) (good : header.Good (header_with i c
   unfolding header_with least chunk_sizes ◌>>=◌ view
   wide_metadata e =
       let g = parts (header_with i c) good in
-      none_or _ _ (small_more (is_present i.icc) 20 10 c.metadata _ g.sizes_ok.0.1.1.1.0 e)
-      (none_or _ _ (small_more (i.has_gain_map && is_present i.gain_map.tmap_icc) 20 10 c.metadata _ g.sizes_ok.0.1.1.1.1.0 e)
+      none_or _ _ (small_more (is_some i.icc) 20 10 c.metadata _ g.sizes_ok.0.1.1.1.0 e)
+      (none_or _ _ (small_more (i.has_gain_map && is_some i.gain_map.tmap_icc) 20 10 c.metadata _ g.sizes_ok.0.1.1.1.1.0 e)
       (none_or _ _ (small_field i.has_gain_map 20 10 c.metadata _ g.sizes_ok.0.1.1.1.1.1.0 e)
-      (none_or _ _ (small_more (is_present i.exif) 20 10 c.metadata _ g.sizes_ok.0.1.1.1.1.1.1.1.1.1.1.1.1.1.0 e)
-      (small_more (is_present i.xmp) 20 10 c.metadata _ g.sizes_ok.0.1.1.1.1.1.1.1.1.1.1.1.1.1.1 e))))
+      (none_or _ _ (small_more (is_some i.exif) 20 10 c.metadata _ g.sizes_ok.0.1.1.1.1.1.1.1.1.1.1.1.1.1.0 e)
+      (small_more (is_some i.xmp) 20 10 c.metadata _ g.sizes_ok.0.1.1.1.1.1.1.1.1.1.1.1.1.1.1 e))))
 
   wide_config : c.config ≡ false → (least i).config ≡ false
   unfolding header_with least chunk_sizes ◌>>=◌ view
@@ -181,7 +180,7 @@ module _ (i : MinimizedImage) (c : Choices) (good : header.Good (header_with i c
       let g = parts (header_with i c) good in
       flag_if-off i.has_gain_map c.same g.gain_map_ok.0.1.0 e
 
-  off_metadata : (is_present i.icc || is_present i.exif || is_present i.xmp || i.has_gain_map) ≡ false → c.metadata ≡ false
+  off_metadata : (is_some i.icc || is_some i.exif || is_some i.xmp || i.has_gain_map) ≡ false → c.metadata ≡ false
   unfolding header_with chunk_sizes ◌>>=◌ view
   off_metadata e =
       let g = parts (header_with i c) good in
@@ -245,9 +244,9 @@ module _ (i : MinimizedImage) (c : Choices) (good : header.Good (header_with i c
               (
                 flag_good d.item,
                 (
-                  more_fit (is_present i.icc) 20 10 c.metadata d.metadata _ (lit≤ tt) g.sizes_ok.0.1.1.1.0 (λ e. (nm e).0),
+                  more_fit (is_some i.icc) 20 10 c.metadata d.metadata _ (lit≤ tt) g.sizes_ok.0.1.1.1.0 (λ e. (nm e).0),
                   (
-                    more_fit (has && is_present i.gain_map.tmap_icc) 20 10 c.metadata d.metadata _ (lit≤ tt) g.sizes_ok.0.1.1.1.1.0 (λ e. (nm e).1),
+                    more_fit (has && is_some i.gain_map.tmap_icc) 20 10 c.metadata d.metadata _ (lit≤ tt) g.sizes_ok.0.1.1.1.1.0 (λ e. (nm e).1),
                     (
                       field_fit has 20 10 c.metadata d.metadata _ (lit≤ tt) g.sizes_ok.0.1.1.1.1.1.0 (λ e. (nm e).2),
                       (
@@ -265,8 +264,8 @@ module _ (i : MinimizedImage) (c : Choices) (good : header.Good (header_with i c
                                   (
                                     g.sizes_ok.0.1.1.1.1.1.1.1.1.1.1.1.1.0,
                                     (
-                                      more_fit (is_present i.exif) 20 10 c.metadata d.metadata _ (lit≤ tt) g.sizes_ok.0.1.1.1.1.1.1.1.1.1.1.1.1.1.0 (λ e. (nm e).3),
-                                      more_fit (is_present i.xmp) 20 10 c.metadata d.metadata _ (lit≤ tt) g.sizes_ok.0.1.1.1.1.1.1.1.1.1.1.1.1.1.1 (λ e. (nm e).4),
+                                      more_fit (is_some i.exif) 20 10 c.metadata d.metadata _ (lit≤ tt) g.sizes_ok.0.1.1.1.1.1.1.1.1.1.1.1.1.1.0 (λ e. (nm e).3),
+                                      more_fit (is_some i.xmp) 20 10 c.metadata d.metadata _ (lit≤ tt) g.sizes_ok.0.1.1.1.1.1.1.1.1.1.1.1.1.1.1 (λ e. (nm e).4),
                                     ),
                                   ),
                                 ),
@@ -374,8 +373,8 @@ len_gain_map_dimension false same large main v = refl
 -- how often each width is taken
 abbrev md_count : MinimizedImage → ℕ
 md_count i =
-    to_n (is_present i.icc)
-    + (to_n (i.has_gain_map && is_present i.gain_map.tmap_icc) + (to_n i.has_gain_map + (to_n (is_present i.exif) + to_n (is_present i.xmp))))
+    to_n (is_some i.icc)
+    + (to_n (i.has_gain_map && is_some i.gain_map.tmap_icc) + (to_n i.has_gain_map + (to_n (is_some i.exif) + to_n (is_some i.xmp))))
 
 abbrev cc_count : MinimizedImage → ℕ
 cc_count i = 1 + (to_n (i.alpha && ltb 0 i.alpha_data.len) + to_n (i.has_gain_map && ltb 0 i.gain_map.«data».len))
@@ -403,8 +402,8 @@ len_gain i c d = simp (length-append, len_flag, len_gain_map_dimension) (omega a
 
 len_sizes : (i : MinimizedImage) (c : Choices)
     → length ((chunk_sizes (header_with i c).flags (header_with i c).gain_map).print (header_with i c).sizes)
-    ≡ to_n (is_present i.icc || is_present i.exif || is_present i.xmp || i.has_gain_map)
-    + (2 + (to_n (is_present i.exif || is_present i.xmp)
+    ≡ to_n (is_some i.icc || is_some i.exif || is_some i.xmp || i.has_gain_map)
+    + (2 + (to_n (is_some i.exif || is_some i.xmp)
     + (sized c.metadata 20 10 * md_count i + (sized c.config 12 3 * cc_count i + sized c.item 28 15 * id_count i))))
 unfolding chunk_sizes header_with ◌>>=◌ view
 len_sizes i c = simp (length-append, len_flag, len_field, len_more, length-bits_n, mul-add) (omega arith)
@@ -431,13 +430,13 @@ pub same_choices : (d c : Choices) → Same d c → d ≡ c
 same_choices d c e =
     λ j. record { large = e.0.0 j; same = e.0.1 j; metadata = e.1.0 j; config = e.1.1.0 j; item = e.1.1.1 j }
 
-md_count_lem : (i : MinimizedImage) → to_n (is_present i.icc || is_present i.exif || is_present i.xmp || i.has_gain_map) ≤ md_count i
+md_count_lem : (i : MinimizedImage) → to_n (is_some i.icc || is_some i.exif || is_some i.xmp || i.has_gain_map) ≤ md_count i
 md_count_lem i =
     omega (
       arith,
-      or_count (is_present i.icc) (is_present i.exif),
-      or_count (is_present i.icc || is_present i.exif) (is_present i.xmp),
-      or_count (is_present i.icc || is_present i.exif || is_present i.xmp) i.has_gain_map,
+      or_count (is_some i.icc) (is_some i.exif),
+      or_count (is_some i.icc || is_some i.exif) (is_some i.xmp),
+      or_count (is_some i.icc || is_some i.exif || is_some i.xmp) i.has_gain_map,
     )
 
 -- any other choices cost nine bits more at least
@@ -446,7 +445,7 @@ pub least_step : (i : MinimizedImage) (c : Choices) → header.Good (header_with
 least_step i c good =
     let d = least i in
     let m : c.metadata ≡ true → 10 * md_count i + 9 ≤ 20 * md_count i =
-    λ e. omega (arith, md_count_lem i, on_unless (is_present i.icc || is_present i.exif || is_present i.xmp || i.has_gain_map) c.metadata (off_metadata i c good) e) in
+    λ e. omega (arith, md_count_lem i, on_unless (is_some i.icc || is_some i.exif || is_some i.xmp || i.has_gain_map) c.metadata (off_metadata i c good) e) in
     step_move _ _
     (step_add
     (step_dims i.has_gain_map c.large d.large c.same d.same (wide_large i c good) (wide_same i c good) (off_same i c good) (same_off i))

@@ -1,14 +1,14 @@
 -- What is written is read back; what is read can be written; and what is written is the one shortest payload that reads so.
 -- Assumes nothing.
-use Rattle.std.specs.Prelude.{◌≡◌, refl, Bool, true, false, not, ◌&&◌, ◌||◌, ◌⊎◌, List, [], ◌∷◌, ◌++◌, map, ℕ, ◌+◌, ◌≤◌, ◌<◌, T, leb, ltb, length, take, drop}
+use Rattle.std.specs.Prelude.{◌≡◌, refl, Bool, true, false, not, ◌&&◌, ◌||◌, ◌⊎◌, List, [], ◌∷◌, ◌++◌, map, ℕ, ◌+◌, ◌≤◌, ◌<◌, T, leb, ltb, length, take, drop, Option, Some, None, is_some}
 use Rattle.std.proofs.Common.{sym, ap, ap₂, ◌∙◌, subst, true≢false, inl, inr, append_assoc, append-nil, arith, leb→le, length-append, length-take, length-drop, take-append-drop, take_at, length-take-le}
 use Rattle.std.proofs.Math.Pow.{are_bytes}
 use Rattle.bits.specs.State.{bytes_of}
 use Rattle.bits.specs.Format.{◌>>=◌, and_split, and_join, field_if, minus1_if, length-bytes_of, bits_bytes, bytes_bits, view}
 use Rattle.bits.specs.Bit.{bits_of, bits_of-append, length-bits_of}
 use Rattle.mini.specs.Syntax.{header, chunk_sizes}
-use Rattle.mini.specs.Read.{read_mini}
-use Rattle.mini.specs.Chunks.{stored_sizes, chunk_if, stored_places, is_present}
+use Rattle.mini.specs.Read.{read_mini, Reading}
+use Rattle.mini.specs.Chunks.{stored_sizes, chunk_if, stored_places}
 use Rattle.mini.specs.Image.{image_of}
 use Rattle.mini.specs.Bytes.{bytes_take}
 use Rattle.mini.specs.Cut.{within_of, sum, joined, cut, cut-joined, joined-cut, length-joined}
@@ -19,11 +19,9 @@ use Rattle.mini.specs.RecordHeader.{parts, choices_of, image_again, header_again
 use Rattle.mini.proofs.RecordHeader.{chunks_again}
 use Rattle.mini.specs.OptionalFields.{field_if-off}
 use Rattle.mini.proofs.Narrowest.{Step, even, over, Same, same_choices, least_good, least_step}
-use Rattle.mini.specs.declared.Chunk.{Chunk}
-use Rattle.mini.specs.declared.Chunk.TheVariants.{Absent, Present}
 use Rattle.mini.specs.declared.Header.{Header}
+use Rattle.mini.specs.declared.Span.{Span}
 use Rattle.mini.specs.declared.MinimizedImage.{MinimizedImage}
-use Rattle.mini.specs.declared.Reading.{Reading}
 use Rattle.mini.specs.RoundTrip.{ReadsTo}
 
 -- ---- a printed header, its chunks and anything after them are a payload that reads to the header
@@ -90,13 +88,13 @@ span_len n at s h = simp (length-take, length-drop) (omega (arith, leb→le (at 
 zero_len : (n at : ℕ) (s : List ℕ) → n ≡ 0 → length (take n (drop at s)) ≡ n
 zero_len n at s e = simp length-take (omega arith)
 
-chunk_len_lem : (c : Chunk) (s : List ℕ) → T (chunk_in c (length s)) → length (chunk_bytes c s) ≡ chunk_len c
-chunk_len_lem Absent s h = refl
-chunk_len_lem (Present at len) s h = span_len len at s h
+chunk_len_lem : (c : Option Span) (s : List ℕ) → T (chunk_in c (length s)) → length (chunk_bytes c s) ≡ chunk_len c
+chunk_len_lem None s h = refl
+chunk_len_lem (Some x) s h = span_len x.len x.at s h
 
-zero_chunk : (c : Chunk) (s : List ℕ) → chunk_len c ≡ 0 → length (chunk_bytes c s) ≡ chunk_len c
-zero_chunk Absent s e = refl
-zero_chunk (Present at len) s e = zero_len len at s e
+zero_chunk : (c : Option Span) (s : List ℕ) → chunk_len c ≡ 0 → length (chunk_bytes c s) ≡ chunk_len c
+zero_chunk None s e = refl
+zero_chunk (Some x) s e = zero_len x.len x.at s e
 
 -- a gain map's four chunks: well placed, or all empty
 gain_lens : (i : MinimizedImage) (s : List ℕ) (has : Bool)
@@ -144,7 +142,7 @@ chunk_lens i c s w good =
     let e = gain_lens i s has a3.0
     (λ f. (
       off-field has (ltb 0 i.gain_map.«data».len) _ _ g.sizes_ok.0.1.1.1.1.1.1.1.0 f,
-      off_more has (is_present i.gain_map.tmap_icc) _ _ g.sizes_ok.0.1.1.1.1.0 f,
+      off_more has (is_some i.gain_map.tmap_icc) _ _ g.sizes_ok.0.1.1.1.1.0 f,
       field_if-off has _ _ g.sizes_ok.0.1.1.1.1.1.0 f,
       field_if-off has _ _ g.sizes_ok.0.1.1.1.1.1.1.0 f,
     )) in
@@ -214,17 +212,17 @@ read_writable s z =
     subst (λ (r : Reading). T (writable r.image)) (sym (reads_image s z)) (image_writable h (chunks_start h) (reads_inv s z).good)
 
 -- a record is as writable as the same record in other places
-len_unplaced : (c : Chunk) → chunk_len (unplaced_chunk c) ≡ chunk_len c
-len_unplaced Absent = refl
-len_unplaced (Present at len) = refl
+len_unplaced : (c : Option Span) → chunk_len (unplaced_chunk c) ≡ chunk_len c
+len_unplaced None = refl
+len_unplaced (Some x) = refl
 
-present_unplaced : (c : Chunk) → is_present (unplaced_chunk c) ≡ is_present c
-present_unplaced Absent = refl
-present_unplaced (Present at len) = refl
+present_unplaced : (c : Option Span) → is_some (unplaced_chunk c) ≡ is_some c
+present_unplaced None = refl
+present_unplaced (Some x) = refl
 
-empty_unplaced : (c : Chunk) → not_empty (unplaced_chunk c) ≡ not_empty c
-empty_unplaced Absent = refl
-empty_unplaced (Present at len) = refl
+empty_unplaced : (c : Option Span) → not_empty (unplaced_chunk c) ≡ not_empty c
+empty_unplaced None = refl
+empty_unplaced (Some x) = refl
 
 pub header-unplaced : (i : MinimizedImage) → header_of (unplaced i) ≡ header_of i
 unfolding header_of header_with least unplaced

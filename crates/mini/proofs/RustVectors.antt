@@ -1,6 +1,6 @@
 -- Payloads that the Rust's `to_box` writes, and what its `parse` finds there. The laws of a format cannot tell two fields that are read and
 -- printed in each other's place, and these can: one or two features at a time, then a record with everything. Assumes nothing.
-use Rattle.std.specs.Prelude.{◌≡◌, refl, true, false, ◌&&◌, List, [], ◌∷◌, map, ℕ, zero, suc, ◌+◌, replicate}
+use Rattle.std.specs.Prelude.{◌≡◌, refl, true, false, ◌&&◌, List, [], ◌∷◌, map, ℕ, zero, suc, ◌+◌, replicate, Some, is_some}
 use Rattle.bits.specs.Bit.{to_n}
 use Rattle.bits.specs.State.{ahead, part, bytes_of, bytes_at, read_bits, read_bytes}
 use Rattle.bits.specs.Format.{◌>>=◌, view}
@@ -12,20 +12,16 @@ use Rattle.mini.specs.Read.{bits_to_boundary, past_trailing_bits, test_chunks, r
 use Rattle.mini.specs.Same.{chunk_len, chunks_of, well_placed, unplaced}
 use Rattle.mini.specs.Syntax.{flags, dimensions, chroma, float_format, integer_format, sample_format, explicit_cicp, explicit_codec_types, main_format, tmap_cicp, gain_map_dimension, gain_map_format, gain_map_header, cclv, cclv_for, hdr_boxes, chunk_sizes, header, trailing_bits}
 use Rattle.mini.specs.Cclv.{cclv_more}
-use Rattle.mini.specs.Views.{bits_in, float_code, has_cicp, has_codec_types, is_float}
+use Rattle.mini.specs.Views.{bits_in, float_code, is_float}
 use Rattle.mini.specs.Write.{least, header_with, header_of, payload_with, payload_of, writable}
-use Rattle.mini.specs.declared.Chunk.TheVariants.{Present}
 use Rattle.mini.specs.declared.SampleFormat.TheVariants.{Integer, Float}
-use Rattle.mini.specs.declared.ExplicitCodecTypes.TheVariants as types_are
-use Rattle.mini.specs.declared.ExplicitCicp.TheVariants as cicp-is
-use Rattle.mini.specs.declared.TmapCicp.TheVariants as tmap-is
 use Rattle.mini.specs.declared.MinimizedImage.{MinimizedImage}
 
 -- the record's flags, numbers and lengths
 abbrev summary : MinimizedImage → List ℕ
 summary i =
-    to_n (has_codec_types i.explicit_codec_types) ∷ to_n (is_float i.format) ∷ bits_in i.format ∷ to_n i.full_range ∷ to_n i.alpha ∷ to_n i.alpha_premultiplied
-    ∷ to_n (has_cicp i.explicit_cicp) ∷ to_n i.hdr ∷ to_n i.chroma.horizontally_centered ∷ to_n i.chroma.vertically_centered ∷ i.chroma.subsampling
+    to_n (is_some i.explicit_codec_types) ∷ to_n (is_float i.format) ∷ bits_in i.format ∷ to_n i.full_range ∷ to_n i.alpha ∷ to_n i.alpha_premultiplied
+    ∷ to_n (is_some i.explicit_cicp) ∷ to_n i.hdr ∷ to_n i.chroma.horizontally_centered ∷ to_n i.chroma.vertically_centered ∷ i.chroma.subsampling
     ∷ i.orientation ∷ i.width ∷ i.height ∷ chunk_len i.icc ∷ chunk_len i.exif ∷ chunk_len i.xmp ∷ to_n i.exif_xmp_compressed
     ∷ i.main_codec_config.len ∷ i.main_data.len ∷ chunk_len i.alpha_codec_config ∷ i.alpha_data.len
     ∷ to_n i.hdr_boxes.has_clli ∷ to_n i.hdr_boxes.has_mdcv ∷ to_n i.hdr_boxes.has_cclv ∷ to_n i.hdr_boxes.has_amve
@@ -72,15 +68,15 @@ bytes_from k (suc n) = k ∷ bytes_from (k + 1) n
 abbrev rich : MinimizedImage
 rich =
     record {
-      explicit_codec_types = types_are.Present 0x61763031 0x61763143;
+      explicit_codec_types = Some (record { infe_type = 0x61763031; codec_config_type = 0x61763143 });
       format = Float 32;
       full_range = true;
       chroma = record { subsampling = 1; horizontally_centered = true; vertically_centered = false };
       orientation = 6;
       width = 400;
       height = 20;
-      explicit_cicp = cicp-is.Present 9 16 9;
-      icc = Present 1 3;
+      explicit_cicp = Some (record { primaries = 9; transfer = 16; matrix = 9 });
+      icc = Some (record { at = 1; len = 3 });
       alpha = true;
       alpha_premultiplied = true;
       hdr = true;
@@ -108,20 +104,20 @@ rich =
             full_range = true;
             chroma = record { subsampling = 0; horizontally_centered = false; vertically_centered = false };
             format = Integer 10;
-            tmap_cicp = tmap-is.Present 1 2 3 true;
-            tmap_icc = Present 0 2;
+            tmap_cicp = Some (record { primaries = 1; transfer = 2; matrix = 3; full_range = true });
+            tmap_icc = Some (record { at = 0; len = 2 });
             tmap_hdr = blank_hdr_boxes;
             metadata = record { at = 4; len = 5 };
-            codec_config = Present 9 1;
+            codec_config = Some (record { at = 9; len = 1 });
             «data» = record { at = 10; len = 4 };
           };
       main_codec_config = record { at = 3; len = 9 };
       main_data = record { at = 0; len = 7 };
-      alpha_codec_config = Present 2 3;
+      alpha_codec_config = Some (record { at = 2; len = 3 });
       alpha_data = record { at = 5; len = 6 };
       exif_xmp_compressed = true;
-      exif = Present 1 2;
-      xmp = Present 8 8;
+      exif = Some (record { at = 1; len = 2 });
+      xmp = Some (record { at = 8; len = 8 });
     }
 
 abbrev source : List ℕ

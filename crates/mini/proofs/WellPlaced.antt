@@ -3,12 +3,11 @@ use Rattle.std.specs.Prelude.{◌≡◌, refl, Bool, true, false, not, ◌&&◌,
 use Rattle.std.proofs.Common.{sym, subst, arith, le-leb}
 use Rattle.mini.specs.Chunks.{stored_sizes, chunk_if, span_if, stored_places}
 use Rattle.mini.specs.Image.{image_of}
-use Rattle.mini.specs.Read.{read_mini}
+use Rattle.mini.specs.Read.{read_mini, Reading}
 use Rattle.mini.specs.Cut.{sum, of_within}
 use Rattle.mini.specs.Payload.{header-bytes, chunks_start, accepted, reads_inv, reads_image, found}
 use Rattle.mini.specs.Same.{chunk_in, span_in, well_placed}
 use Rattle.mini.specs.declared.Header.{Header}
-use Rattle.mini.specs.declared.Reading.{Reading}
 
 chunk_in_lem : (t : Bool) (p z n : ℕ) → p + z ≤ n → chunk_in (chunk_if t p z) n ≡ true
 chunk_in_lem true p z n h = le-leb (p + z) n h

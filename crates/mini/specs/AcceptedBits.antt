@@ -2,10 +2,10 @@
 -- stored order, then any bytes; and what it then reads to is that header's record, whose chunks are those. Document 01, refusals 5 to 9
 -- and 'The record and its order of bits'.
 -- That this is so, in both directions, is proved in proofs/AcceptedBits.antt.
-use Rattle.std.specs.Prelude.{◌≡◌, false, List, ◌++◌, map, ℕ, ◌+◌, length, replicate}
+use Rattle.std.specs.Prelude.{◌≡◌, false, List, ◌++◌, map, ℕ, length, replicate}
 use Rattle.bits.specs.Bit.{bits_of}
 use Rattle.mini.specs.Chunks.{stored_sizes}
-use Rattle.mini.specs.Cut.{joined, cut}
+use Rattle.mini.specs.Cut.{joined}
 use Rattle.mini.specs.Image.{image_of}
 use Rattle.mini.specs.Payload.{chunks_start}
 use Rattle.mini.specs.Read.{bits_to_boundary}

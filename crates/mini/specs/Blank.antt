@@ -1,12 +1,8 @@
 -- The blank record, which goes with every refusal: numbers 0, flags false, formats integer of 0 bits, chunks absent, or empty at 0 where
 -- they are always present, all other options absent. Document 01, 'What goes back when it cannot be done'.
-use Rattle.std.specs.Prelude.{false, replicate}
-use Rattle.mini.specs.declared.Chunk.TheVariants.{Absent}
+use Rattle.std.specs.Prelude.{false, replicate, None}
 use Rattle.mini.specs.declared.Span.{Span}
 use Rattle.mini.specs.declared.SampleFormat.TheVariants.{Integer}
-use Rattle.mini.specs.declared.ExplicitCodecTypes.TheVariants as types_are
-use Rattle.mini.specs.declared.ExplicitCicp.TheVariants as cicp-is
-use Rattle.mini.specs.declared.TmapCicp.TheVariants as tmap-is
 use Rattle.mini.specs.declared.MiniHdrBoxes.{MiniHdrBoxes}
 use Rattle.mini.specs.declared.MiniGainMap.{MiniGainMap}
 use Rattle.mini.specs.declared.MinimizedImage.{MinimizedImage}
@@ -40,26 +36,26 @@ blank_gain_map =
       full_range = false;
       chroma = record { subsampling = 0; horizontally_centered = false; vertically_centered = false };
       format = Integer 0;
-      tmap_cicp = tmap-is.Absent;
-      tmap_icc = Absent;
+      tmap_cicp = None;
+      tmap_icc = None;
       tmap_hdr = blank_hdr_boxes;
       metadata = empty_span;
-      codec_config = Absent;
+      codec_config = None;
       «data» = empty_span;
     }
 
 abbrev pub blank_image : MinimizedImage
 blank_image =
     record {
-      explicit_codec_types = types_are.Absent;
+      explicit_codec_types = None;
       format = Integer 0;
       full_range = false;
       chroma = record { subsampling = 0; horizontally_centered = false; vertically_centered = false };
       orientation = 0;
       width = 0;
       height = 0;
-      explicit_cicp = cicp-is.Absent;
-      icc = Absent;
+      explicit_cicp = None;
+      icc = None;
       alpha = false;
       alpha_premultiplied = false;
       hdr = false;
@@ -68,9 +64,9 @@ blank_image =
       gain_map = blank_gain_map;
       main_codec_config = empty_span;
       main_data = empty_span;
-      alpha_codec_config = Absent;
+      alpha_codec_config = None;
       alpha_data = empty_span;
       exif_xmp_compressed = false;
-      exif = Absent;
-      xmp = Absent;
+      exif = None;
+      xmp = None;
     }

@@ -1,9 +1,7 @@
 -- The chunks that follow the header: ISO/IEC 23008-12 Amd 2, Annex O.3.2; document 01, 'The record and its order of bits'. Their sizes are
 -- given in one order, and they lie in another.
-use Rattle.std.specs.Prelude.{◌≡◌, refl, Bool, true, false, ◌&&◌, List, [], ◌∷◌, ℕ, ◌+◌, leb}
+use Rattle.std.specs.Prelude.{◌≡◌, refl, Bool, true, false, ◌&&◌, List, [], ◌∷◌, ℕ, ◌+◌, leb, Option, Some, None}
 use Rattle.mini.specs.Views.{SizeParts, sizes_from}
-use Rattle.mini.specs.declared.Chunk.{Chunk}
-use Rattle.mini.specs.declared.Chunk.TheVariants.{Absent, Present}
 use Rattle.mini.specs.declared.Span.{Span}
 use Rattle.mini.specs.declared.ChunkPlaces.{ChunkPlaces}
 use Rattle.mini.specs.declared.ChunkSizes.{ChunkSizes}
@@ -73,18 +71,14 @@ end_within n at [] = true
 end_within n at (size ∷ sizes) = leb (at + size) n && end_within n (at + size) sizes
 
 -- ---- a chunk of the record
-abbrev pub chunk_if : Bool → ℕ → ℕ → Chunk
-chunk_if true at len = Present at len
-chunk_if false at len = Absent
+abbrev pub chunk_if : Bool → ℕ → ℕ → Option Span
+chunk_if true at len = Some (record { at = at; len = len })
+chunk_if false at len = None
 
 -- one that is always there: at 0 where its owner is absent
 abbrev pub span_if : Bool → ℕ → ℕ → Span
 span_if true at len = record { at = at; len = len }
 span_if false at len = record { at = 0; len = len }
-
-abbrev pub is_present : Chunk → Bool
-is_present Absent = false
-is_present (Present at len) = true
 
 -- ---- the order given is that of the header's fields
 sizes_in : SizeParts → List ℕ

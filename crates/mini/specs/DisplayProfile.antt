@@ -1,7 +1,6 @@
 -- Which records a display takes as they are: the desk check of document 01, whose width and height are those of the picture as shown
 -- (document 02, point 2).
-use Rattle.std.specs.Prelude.{Bool, not, ◌&&◌, ℕ, leb}
-use Rattle.mini.specs.Chunks.{is_present}
+use Rattle.std.specs.Prelude.{Bool, not, ◌&&◌, ℕ, leb, is_some}
 use Rattle.mini.specs.ShownSize.{shown_size}
 use Rattle.mini.specs.Views.{is_float}
 use Rattle.mini.specs.declared.DisplayConditions.{DisplayConditions}
@@ -19,7 +18,7 @@ display_conditions i =
     record {
       integer_samples = not (is_float i.format);
       no_gain_map = not i.has_gain_map;
-      exif_present = is_present i.exif;
+      exif_present = is_some i.exif;
       width_fits = leb (shown_size i).width max_display_width;
       height_fits = leb (shown_size i).height max_display_height;
     }

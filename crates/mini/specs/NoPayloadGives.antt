@@ -1,23 +1,19 @@
 -- What no payload gives, as document 01 lists it ('The record and its order of bits': 'No payload gives: ..'), and that no record that can
 -- be written has one of these faults (so none that is read). That the list is complete stands in
 -- proofs/ListIsExact.antt. Assumes nothing.
-use Rattle.std.specs.Prelude.{◌≡◌, refl, Bool, true, false, ◌&&◌, ◌||◌, ℕ, ◌-◌, ◌^◌, ◌≤◌, ◌<◌, T, eqb, ltb}
+use Rattle.std.specs.Prelude.{◌≡◌, refl, Bool, true, false, ◌&&◌, ◌||◌, ℕ, ◌-◌, ◌^◌, ◌≤◌, ◌<◌, T, eqb, ltb, Option, Some, None, is_some}
 use Rattle.std.proofs.Common.{sym, ap, ◌∙◌, true≢false, lt_of_lt_of_le, arith, ltb→lt, lt→ltb, lit≤, pow_mono, pow_pos, le-ltb}
 use Rattle.std.proofs.lemmas.Bool.{false≢true}
 use Rattle.bits.specs.Format.{◌>>=◌, and_split, field_if, minus1_if, flag_if, sized, view}
 use Rattle.mini.specs.Syntax.{header, flags, dimensions, main_format, gain_map_header, gain_map_dimension, chunk_sizes}
-use Rattle.mini.specs.Views.{has_tmap_cicp}
 use Rattle.mini.specs.Blank.{blank_hdr_boxes, blank_gain_map}
-use Rattle.mini.specs.Chunks.{is_present}
 use Rattle.mini.specs.Same.{chunk_len, unplaced_chunk, unplaced}
 use Rattle.mini.specs.Write.{not_empty, Choices, least, header_with, header_of, writable}
 use Rattle.mini.specs.RecordHeader.{parts}
 use Rattle.mini.specs.OptionalFields.{field_if-off, flag_if-off, gain_more}
 use Rattle.mini.specs.Ranges.{Within, FormatIn, format_iff, gain_format_iff, CicpIn, cicp_iff, TypesIn, types_iff, TmapIn, tmap_iff, Centred, chroma_iff, Bodies, boxes_iff}
-use Rattle.mini.specs.declared.Chunk.{Chunk}
-use Rattle.mini.specs.declared.Chunk.TheVariants.{Absent, Present}
+use Rattle.mini.specs.declared.Span.{Span}
 use Rattle.mini.specs.declared.TmapCicp.{TmapCicp}
-use Rattle.mini.specs.declared.TmapCicp.TheVariants as tmap-is
 use Rattle.mini.specs.declared.MiniChroma.{MiniChroma}
 use Rattle.mini.specs.declared.MinimizedImage.{MinimizedImage}
 
@@ -49,7 +45,7 @@ pub record Lawful (i : MinimizedImage) : Type 0 where
   pub boxes_bodies : Bodies i.hdr_boxes
   pub tmap_bodies : Bodies i.gain_map.tmap_hdr
   -- compressed without Exif or XMP
-  pub compressed : (is_present i.exif || is_present i.xmp) ≡ false → i.exif_xmp_compressed ≡ false
+  pub compressed : (is_some i.exif || is_some i.xmp) ≡ false → i.exif_xmp_compressed ≡ false
   -- empty main data
   pub main_data : 1 ≤ i.main_data.len
   -- a number outside its field: the main picture's
@@ -108,13 +104,13 @@ blank_chroma c k e =
     let v = k.vertical_stored (ap (λ (x : ℕ). eqb x 1) e) in
     λ j. record { subsampling = e j; horizontally_centered = h j; vertically_centered = v j }
 
-no_chunk : (c : Chunk) → is_present c ≡ false → unplaced_chunk c ≡ Absent
-no_chunk Absent e = refl
-no_chunk (Present at len) e = absurd (true≢false e)
+no_chunk : (c : Option Span) → is_some c ≡ false → unplaced_chunk c ≡ None
+no_chunk None e = refl
+no_chunk (Some x) e = absurd (true≢false e)
 
-no_config : (c : Chunk) → T (not_empty c) → chunk_len c ≡ 0 → unplaced_chunk c ≡ Absent
-no_config Absent h e = refl
-no_config (Present at len) h e = absurd (omega (arith, ltb→lt 0 len h))
+no_config : (c : Option Span) → T (not_empty c) → chunk_len c ≡ 0 → unplaced_chunk c ≡ None
+no_config None h e = refl
+no_config (Some x) h e = absurd (omega (arith, ltb→lt 0 x.len h))
 
 and_zero : (a : Bool) (n : ℕ) → n ≡ 0 → (a && ltb 0 n) ≡ false
 and_zero true n e = le-ltb 0 n (omega arith)
@@ -124,13 +120,13 @@ and_on : (has t : Bool) → (flag_if has).Good t → t ≡ true → (has && t) �
 and_on true t g e = e
 and_on false t g e = absurd (false≢true (sym g ∙ e))
 
-no_tmap : (c : TmapCicp) → has_tmap_cicp c ≡ false → c ≡ tmap-is.Absent
-no_tmap tmap-is.Absent e = refl
-no_tmap (tmap-is.Present p t m f) e = absurd (true≢false e)
+no_tmap : (c : Option TmapCicp) → is_some c ≡ false → c ≡ None
+no_tmap None e = refl
+no_tmap (Some c) e = absurd (true≢false e)
 
-held : (c : Chunk) → (is_present c ≡ true → 1 ≤ chunk_len c) → T (not_empty c)
-held Absent h = tt
-held (Present at len) h = lt→ltb 0 len (h refl)
+held : (c : Option Span) → (is_some c ≡ true → 1 ≤ chunk_len c) → T (not_empty c)
+held None h = tt
+held (Some x) h = lt→ltb 0 x.len (h refl)
 
 blank_gain : (i : MinimizedImage) (c : Choices) → header.Good (header_with i c) → T (not_empty i.gain_map.codec_config) → i.has_gain_map ≡ false → (unplaced i).gain_map ≡ blank_gain_map
 unfolding header_with gain_map_header chunk_sizes unplaced ◌>>=◌ view
@@ -144,8 +140,8 @@ blank_gain i c good gc e =
     let f = flag_if-off has m.full_range g.gain_map_ok.0.1.1.1.1.1.0 e in
     let ch = blank_chroma m.chroma ((chroma_iff m.chroma).0 g.gain_map_ok.0.1.1.1.1.1.1.1.0) (field_if-off has 2 m.chroma.subsampling g.gain_map_ok.0.1.1.1.1.1.1.0 e) in
     let fo = ((gain_format_iff has m.format).0 g.gain_map_ok.0.1.1.1.1.1.1.1.1.1.0).0 e in
-    let ci = no_tmap m.tmap_cicp (flag_if-off has (has_tmap_cicp m.tmap_cicp) g.gain_map_ok.0.1.1.1.1.1.1.1.1.1.1.1.0 e) in
-    let ic = no_chunk m.tmap_icc (flag_if-off has (is_present m.tmap_icc) g.gain_map_ok.0.1.1.1.1.1.1.1.1.1.1.0 e) in
+    let ci = no_tmap m.tmap_cicp (flag_if-off has (is_some m.tmap_cicp) g.gain_map_ok.0.1.1.1.1.1.1.1.1.1.1.1.0 e) in
+    let ic = no_chunk m.tmap_icc (flag_if-off has (is_some m.tmap_icc) g.gain_map_ok.0.1.1.1.1.1.1.1.1.1.1.0 e) in
     let bo = ((boxes_iff has m.tmap_hdr).0 g.tmap_hdr_ok).1 e in
     let me = field_if-off has _ m.metadata.len g.sizes_ok.0.1.1.1.1.1.0 e in
     let co = field_if-off has _ m.«data».len g.sizes_ok.0.1.1.1.1.1.1.0 e in
@@ -187,16 +183,16 @@ lawful_of i c good ac gc =
       gain_config_empty = gc;
       alpha_config_alone = acl;
       gain_config_alone = gcl;
-      icc_empty = held i.icc (more_on (is_present i.icc) _ _ g.sizes_ok.0.1.1.1.0);
-      tmap_icc_empty = held m.tmap_icc (λ e. more_on (has && is_present m.tmap_icc) _ _ g.sizes_ok.0.1.1.1.1.0 (and_on has _ g.gain_map_ok.0.1.1.1.1.1.1.1.1.1.1.0 e));
-      exif_empty = held i.exif (more_on (is_present i.exif) _ _ g.sizes_ok.0.1.1.1.1.1.1.1.1.1.1.1.1.1.0);
-      xmp_empty = held i.xmp (more_on (is_present i.xmp) _ _ g.sizes_ok.0.1.1.1.1.1.1.1.1.1.1.1.1.1.1);
+      icc_empty = held i.icc (more_on (is_some i.icc) _ _ g.sizes_ok.0.1.1.1.0);
+      tmap_icc_empty = held m.tmap_icc (λ e. more_on (has && is_some m.tmap_icc) _ _ g.sizes_ok.0.1.1.1.1.0 (and_on has _ g.gain_map_ok.0.1.1.1.1.1.1.1.1.1.1.0 e));
+      exif_empty = held i.exif (more_on (is_some i.exif) _ _ g.sizes_ok.0.1.1.1.1.1.1.1.1.1.1.1.1.1.0);
+      xmp_empty = held i.xmp (more_on (is_some i.xmp) _ _ g.sizes_ok.0.1.1.1.1.1.1.1.1.1.1.1.1.1.1);
       gain_hdr = flag_if-off i.hdr has g.gain_map_ok.0.0;
       boxes_hdr = boxes.1;
       gain_blank = λ e. blank_gain i c good gc e;
       boxes_bodies = boxes.0;
       tmap_bodies = ((boxes_iff has m.tmap_hdr).0 g.tmap_hdr_ok).0;
-      compressed = flag_if-off (is_present i.exif || is_present i.xmp) i.exif_xmp_compressed g.sizes_ok.0.1.1.1.1.1.1.1.1.1.1.1.1.0;
+      compressed = flag_if-off (is_some i.exif || is_some i.xmp) i.exif_xmp_compressed g.sizes_ok.0.1.1.1.1.1.1.1.1.1.1.1.1.0;
       main_data = more_on true _ _ g.sizes_ok.0.1.1.1.1.1.1.1.1.1.0 refl;
       orientation = (more_on true 3 _ g.flags_ok.0.0.1.1.1.1.1.1.1.1.1.1.1 refl, more_below true true 3 3 _ (lit≤ tt) g.flags_ok.0.0.1.1.1.1.1.1.1.1.1.1.1);
       width = (more_on true _ _ w refl, more_below true c.large 15 7 _ (lit≤ tt) w);
@@ -211,10 +207,10 @@ lawful_of i c good ac gc =
       gain_subsampling = omega (arith, field_below has true 2 2 _ (lit≤ tt) g.gain_map_ok.0.1.1.1.1.1.1.0);
       gain_format = ((gain_format_iff has m.format).0 g.gain_map_ok.0.1.1.1.1.1.1.1.1.1.0).1;
       tmap_cicp = (tmap_iff m.tmap_cicp).0 g.gain_map_ok.0.1.1.1.1.1.1.1.1.1.1.1.1;
-      icc_size = more_below (is_present i.icc) c.metadata 20 10 _ (lit≤ tt) g.sizes_ok.0.1.1.1.0;
-      tmap_icc_size = more_below (has && is_present m.tmap_icc) c.metadata 20 10 _ (lit≤ tt) g.sizes_ok.0.1.1.1.1.0;
-      exif_size = more_below (is_present i.exif) c.metadata 20 10 _ (lit≤ tt) g.sizes_ok.0.1.1.1.1.1.1.1.1.1.1.1.1.1.0;
-      xmp_size = more_below (is_present i.xmp) c.metadata 20 10 _ (lit≤ tt) g.sizes_ok.0.1.1.1.1.1.1.1.1.1.1.1.1.1.1;
+      icc_size = more_below (is_some i.icc) c.metadata 20 10 _ (lit≤ tt) g.sizes_ok.0.1.1.1.0;
+      tmap_icc_size = more_below (has && is_some m.tmap_icc) c.metadata 20 10 _ (lit≤ tt) g.sizes_ok.0.1.1.1.1.0;
+      exif_size = more_below (is_some i.exif) c.metadata 20 10 _ (lit≤ tt) g.sizes_ok.0.1.1.1.1.1.1.1.1.1.1.1.1.1.0;
+      xmp_size = more_below (is_some i.xmp) c.metadata 20 10 _ (lit≤ tt) g.sizes_ok.0.1.1.1.1.1.1.1.1.1.1.1.1.1.1;
       metadata_size = omega (arith, field_below has c.metadata 20 10 _ (lit≤ tt) g.sizes_ok.0.1.1.1.1.1.0);
       main_size = more_below true c.item 28 15 _ (lit≤ tt) g.sizes_ok.0.1.1.1.1.1.1.1.1.1.0;
       alpha_size = omega (arith, field_below i.alpha c.item 28 15 _ (lit≤ tt) g.sizes_ok.0.1.1.1.1.1.1.1.1.1.1.0);

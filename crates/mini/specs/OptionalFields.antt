@@ -1,5 +1,5 @@
 -- What a field that a flag calls for can hold, and what it holds where the flag does not. Assumes nothing.
-use Rattle.std.specs.Prelude.{◌≡◌, Bool, false, ◌||◌, ℕ, ◌-◌, ◌≤◌}
+use Rattle.std.specs.Prelude.{◌≡◌, Bool, false, ◌||◌, ℕ}
 use Rattle.std.proofs.Math.Path.{refl}
 use Rattle.std.proofs.Common.{sym, subst, true≢false, lit≤}
 use Rattle.std.proofs.Math.Bool.{true}

@@ -8,12 +8,11 @@ use Rattle.bits.specs.Format.{◌>>=◌, At, at_join, at_left, at_right, test_pa
 use Rattle.bits.specs.Bit.{length-bits_n, length-bits_of}
 use Rattle.mini.specs.Syntax.{header, trailing_bits}
 use Rattle.mini.specs.Blank.{blank_image}
-use Rattle.mini.specs.Read.{bits_to_boundary, past_trailing_bits, reading_if, test_chunks, read_chunks, read_mini}
+use Rattle.mini.specs.Read.{bits_to_boundary, past_trailing_bits, reading_if, test_chunks, read_chunks, read_mini, Reading}
 use Rattle.mini.specs.Chunks.{stored_sizes, end_within}
 use Rattle.mini.specs.Image.{image_of}
 use Rattle.mini.specs.declared.Header.{Header}
 use Rattle.mini.specs.declared.MinimizedImage.{MinimizedImage}
-use Rattle.mini.specs.declared.Reading.{Reading}
 
 at_room : (s : List ℕ) (l : List Bool) → At s 0 l → length l ≤ 8 * length s
 at_room s l e = omega (arith, simp (length-take, length-drop, length-bits_of) at (ap length e))

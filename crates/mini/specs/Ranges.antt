@@ -1,13 +1,13 @@
 -- The numbers that fields can hold, group by group: sample formats, colour, codec types, centring flags and HDR bodies, each stated plainly
 -- and shown to be what the group's format takes. Document 01, 'The record and its order of bits' ('a number outside its field'). Assumes nothing.
-use Rattle.std.specs.Prelude.{◌≡◌, refl, Bool, true, false, not, ◌||◌, ◌↔◌, ◌⊎◌, List, [], ◌∷◌, ◌++◌, ℕ, zero, suc, ◌+◌, ◌-◌, ◌^◌, ◌≤◌, ◌<◌, T, eqb, ltb, length, take, drop, replicate}
+use Rattle.std.specs.Prelude.{◌≡◌, refl, Bool, true, false, not, ◌||◌, ◌↔◌, ◌⊎◌, List, [], ◌∷◌, ◌++◌, ℕ, zero, suc, ◌+◌, ◌-◌, ◌^◌, ◌≤◌, ◌<◌, T, eqb, ltb, length, take, drop, replicate, Option, Some, None, is_some}
 use Rattle.std.proofs.Common.{sym, ap, ◌∙◌, subst, true≢false, inl, inr, arith, ltb→lt, lt→ltb, lit≤, length-append, take-append-drop, drop_at, length-take-le, eqb-true}
 use Rattle.std.proofs.lemmas.Bool.{false≢true, eqb-false}
 use Rattle.std.proofs.Math.Pow.{are_bytes}
 use Rattle.std.proofs.lemmas.List.{length-replicate}
 use Rattle.bits.specs.Format.{◌>>=◌, BytesGood, and_split, and_join, offset, number, choose, bytes_for, view}
 use Rattle.mini.specs.Syntax.{chroma, float_format, integer_format, sample_format, gain_map_format, explicit_cicp, explicit_codec_types, tmap_cicp, cclv, cclv_for, hdr_boxes}
-use Rattle.mini.specs.Views.{is_float, float_code, has_cicp, has_codec_types, has_tmap_cicp, cclv_to, cclv_from}
+use Rattle.mini.specs.Views.{is_float, float_code, cclv_to, cclv_from}
 use Rattle.mini.specs.Blank.{blank_hdr_boxes}
 use Rattle.mini.specs.Bytes.{bytes-append, bytes_take}
 use Rattle.mini.specs.Cclv.{cclv_more, cclv_length}
@@ -15,12 +15,9 @@ use Rattle.mini.specs.HeaderLength.{cclv_most}
 use Rattle.mini.specs.OptionalFields.{flag_good, flag_if_good, flag_if-off}
 use Rattle.mini.specs.declared.SampleFormat.{SampleFormat}
 use Rattle.mini.specs.declared.SampleFormat.TheVariants.{Integer, Float}
-use Rattle.mini.specs.declared.ExplicitCodecTypes.{ExplicitCodecTypes}
-use Rattle.mini.specs.declared.ExplicitCodecTypes.TheVariants as types_are
-use Rattle.mini.specs.declared.ExplicitCicp.{ExplicitCicp}
-use Rattle.mini.specs.declared.ExplicitCicp.TheVariants as cicp-is
+use Rattle.mini.specs.declared.CodecTypes.{CodecTypes}
+use Rattle.mini.specs.declared.Cicp.{Cicp}
 use Rattle.mini.specs.declared.TmapCicp.{TmapCicp}
-use Rattle.mini.specs.declared.TmapCicp.TheVariants as tmap-is
 use Rattle.mini.specs.declared.MiniChroma.{MiniChroma}
 use Rattle.mini.specs.declared.MiniHdrBoxes.{MiniHdrBoxes}
 
@@ -68,42 +65,42 @@ gain_format_iff true f = (λ g. (λ e. absurd (true≢false e), λ e. (format_if
 gain_format_iff false f = (λ g. (λ e. g, λ e. absurd (false≢true e)), λ h. h.0 refl)
 
 -- ---- colour, where it is told
-abbrev pub CicpIn : ExplicitCicp → Type 0
-CicpIn cicp-is.Absent = Unit {0}
-CicpIn (cicp-is.Present primaries transfer matrix) = (primaries ≤ 255) × (transfer ≤ 255) × (matrix ≤ 255)
+abbrev pub CicpIn : Option Cicp → Type 0
+CicpIn None = Unit {0}
+CicpIn (Some c) = (c.primaries ≤ 255) × (c.transfer ≤ 255) × (c.matrix ≤ 255)
 
-pub cicp_iff : (c : ExplicitCicp) → (explicit_cicp (has_cicp c)).Good c ↔ CicpIn c
+pub cicp_iff : (c : Option Cicp) → (explicit_cicp (is_some c)).Good c ↔ CicpIn c
 unfolding explicit_cicp ◌>>=◌ view
-cicp_iff cicp-is.Absent = (λ g. tt, λ h. refl)
-cicp_iff (cicp-is.Present p t m) = (
+cicp_iff None = (λ g. tt, λ h. refl)
+cicp_iff (Some c) = (
   λ g. (omega (arith, g.0.0), omega (arith, g.0.1.0), omega (arith, g.0.1.1)),
   λ h. ((omega (arith, h.0), (omega (arith, h.1), omega (arith, h.2))), refl),
 )
 
 -- ---- codec types, where they are told
-abbrev pub TypesIn : ExplicitCodecTypes → Type 0
-TypesIn types_are.Absent = Unit {0}
-TypesIn (types_are.Present infe config) = (infe ≤ 4294967295) × (config ≤ 4294967295)
+abbrev pub TypesIn : Option CodecTypes → Type 0
+TypesIn None = Unit {0}
+TypesIn (Some c) = (c.infe_type ≤ 4294967295) × (c.codec_config_type ≤ 4294967295)
 
-pub types_iff : (c : ExplicitCodecTypes) → (explicit_codec_types (has_codec_types c)).Good c ↔ TypesIn c
+pub types_iff : (c : Option CodecTypes) → (explicit_codec_types (is_some c)).Good c ↔ TypesIn c
 unfolding explicit_codec_types ◌>>=◌ view
-types_iff types_are.Absent = (λ g. tt, λ h. refl)
-types_iff (types_are.Present i c) = (
+types_iff None = (λ g. tt, λ h. refl)
+types_iff (Some c) = (
   λ g. (omega (arith, g.0.0), omega (arith, g.0.1)),
   λ h. ((omega (arith, h.0), omega (arith, h.1)), refl),
 )
 
 -- ---- the tone-mapped picture's colour, where it is told
-abbrev pub TmapIn : TmapCicp → Type 0
-TmapIn tmap-is.Absent = Unit {0}
-TmapIn (tmap-is.Present primaries transfer matrix full) = (primaries ≤ 255) × (transfer ≤ 255) × (matrix ≤ 255)
+abbrev pub TmapIn : Option TmapCicp → Type 0
+TmapIn None = Unit {0}
+TmapIn (Some c) = (c.primaries ≤ 255) × (c.transfer ≤ 255) × (c.matrix ≤ 255)
 
-pub tmap_iff : (c : TmapCicp) → (tmap_cicp (has_tmap_cicp c)).Good c ↔ TmapIn c
+pub tmap_iff : (c : Option TmapCicp) → (tmap_cicp (is_some c)).Good c ↔ TmapIn c
 unfolding tmap_cicp ◌>>=◌ view
-tmap_iff tmap-is.Absent = (λ g. tt, λ h. refl)
-tmap_iff (tmap-is.Present p t m f) = (
+tmap_iff None = (λ g. tt, λ h. refl)
+tmap_iff (Some c) = (
   λ g. (omega (arith, g.0.0), omega (arith, g.0.1.0), omega (arith, g.0.1.1.0)),
-  λ h. ((omega (arith, h.0), (omega (arith, h.1), (omega (arith, h.2), flag_good f))), refl),
+  λ h. ((omega (arith, h.0), (omega (arith, h.1), (omega (arith, h.2), flag_good c.full_range))), refl),
 )
 
 -- ---- the centring flags: one that the subsampling doesn't store is off

@@ -1,6 +1,6 @@
 -- Reading a MinimizedImageBox payload, for every list of bytes: the header, zero bits up to the byte boundary, the chunks in stored order.
 -- ISO/IEC 23008-12 Amd 2, Annex O.3; document 01, 'What goes back when it cannot be done', 5 to 9, and 'The record and its order of bits'.
-use Rattle.std.specs.Prelude.{Bool, true, false, List, ℕ, ◌-◌, ◌/◌, ◌%◌, eqb, length}
+use Rattle.std.specs.Prelude.{Bool, true, false, List, ℕ, ◌-◌, ◌/◌, ◌%◌, eqb, length, Result, Ok, Err}
 use Rattle.bits.specs.State.{State, clean, test}
 use Rattle.mini.specs.Syntax.{header, trailing_bits}
 use Rattle.mini.specs.Chunks.{stored_sizes, end_within}
@@ -9,7 +9,8 @@ use Rattle.mini.specs.Blank.{blank_image}
 use Rattle.mini.specs.declared.ChunkSizes.{ChunkSizes}
 use Rattle.mini.specs.declared.Header.{Header}
 use Rattle.mini.specs.declared.MinimizedImage.{MinimizedImage}
-use Rattle.mini.specs.declared.Reading.{Reading}
+use Rattle.bits.specs.ReadError.{number}
+use Rattle.bits.specs.declared.ReadError.{ReadError}
 
 -- how many bits are left up to the byte boundary
 unfoldable pub bits_to_boundary : ℕ → ℕ
@@ -22,6 +23,16 @@ past_trailing_bits s b = ((trailing_bits (bits_to_boundary b.at)).parse s b).1
 -- at a byte boundary, before the chunks: refusal 9 where one ends past the payload
 unfoldable pub test_chunks : List ℕ → ChunkSizes → State → State
 test_chunks s z b = test b (end_within (length s) (b.at / 8) (stored_sizes z)) 9
+
+-- ---- what reading says: the number of the refusal, 0 for none, and the record
+pub record Reading : Type 0 where
+  pub refusal : ℕ
+  pub image : MinimizedImage
+
+-- an answer says the record, or a refusal's number and the blank record
+abbrev pub reading_of : Result MinimizedImage ReadError → Reading
+reading_of (Ok image) = record { refusal = 0; image = image }
+reading_of (Err e) = record { refusal = number e; image = blank_image }
 
 -- the record where there is no refusal, else the number and the blank record
 abbrev pub reading_if : Bool → ℕ → MinimizedImage → Reading

@@ -1,31 +1,30 @@
 -- A record and its header: each is found again from the other, positions aside. Assumes nothing.
-use Rattle.std.specs.Prelude.{◌≡◌, refl, Bool, true, false, ◌&&◌, ℕ, T, ltb}
+use Rattle.std.specs.Prelude.{◌≡◌, refl, Bool, true, false, ◌&&◌, ℕ, T, ltb, Option, Some, None, is_some}
 use Rattle.std.proofs.Common.{sym, ap, ◌∙◌, arith, ltb→lt, ltb-false, lt-ltb}
 use Rattle.bits.specs.Format.{◌>>=◌, minus1_if, flag_if, view}
 use Rattle.mini.specs.Syntax.{header, flags, dimensions, main_format, gain_map_header, hdr_boxes, chunk_sizes, chroma, sample_format, float_format, integer_format, gain_map_format, explicit_cicp, explicit_codec_types, tmap_cicp}
-use Rattle.mini.specs.Views.{is_float, has_cicp, has_codec_types, has_tmap_cicp, cicp_told, types_told, tmap_told}
-use Rattle.mini.specs.Chunks.{chunk_if, span_if, stored_places, is_present}
+use Rattle.mini.specs.Views.{is_float, cicp_told, types_told, tmap_told}
+use Rattle.mini.specs.Chunks.{chunk_if, span_if, stored_places}
 use Rattle.mini.specs.Image.{image_of}
 use Rattle.mini.specs.Same.{chunk_len, unplaced_chunk, unplaced}
 use Rattle.mini.specs.Write.{Choices, header_with, not_empty}
-use Rattle.mini.specs.declared.Chunk.{Chunk}
-use Rattle.mini.specs.declared.Chunk.TheVariants.{Absent, Present}
 use Rattle.mini.specs.declared.SampleFormat.{SampleFormat}
 use Rattle.mini.specs.declared.MiniChroma.{MiniChroma}
-use Rattle.mini.specs.declared.ExplicitCodecTypes.{ExplicitCodecTypes}
-use Rattle.mini.specs.declared.ExplicitCicp.{ExplicitCicp}
+use Rattle.mini.specs.declared.Span.{Span}
+use Rattle.mini.specs.declared.CodecTypes.{CodecTypes}
+use Rattle.mini.specs.declared.Cicp.{Cicp}
 use Rattle.mini.specs.declared.TmapCicp.{TmapCicp}
 use Rattle.mini.specs.declared.Header.{Header}
 use Rattle.mini.specs.declared.MinimizedImage.{MinimizedImage}
 
 -- ---- record, header, record
-chunk_again : (p : ℕ) (c : Chunk) → unplaced_chunk (chunk_if (is_present c) p (chunk_len c)) ≡ unplaced_chunk c
-chunk_again p Absent = refl
-chunk_again p (Present at len) = refl
+chunk_again : (p : ℕ) (c : Option Span) → unplaced_chunk (chunk_if (is_some c) p (chunk_len c)) ≡ unplaced_chunk c
+chunk_again p None = refl
+chunk_again p (Some x) = refl
 
-config_again : (c : Chunk) → T (not_empty c) → (p : ℕ) → unplaced_chunk (chunk_if (ltb 0 (chunk_len c)) p (chunk_len c)) ≡ unplaced_chunk c
-config_again Absent h p = refl
-config_again (Present at len) h p = ap (λ (t : Bool). unplaced_chunk (chunk_if t p len)) (lt-ltb 0 len (ltb→lt 0 len h))
+config_again : (c : Option Span) → T (not_empty c) → (p : ℕ) → unplaced_chunk (chunk_if (ltb 0 (chunk_len c)) p (chunk_len c)) ≡ unplaced_chunk c
+config_again None h p = refl
+config_again (Some x) h p = ap (λ (t : Bool). unplaced_chunk (chunk_if t p x.len)) (lt-ltb 0 x.len (ltb→lt 0 x.len h))
 
 span_again : (t : Bool) (p len : ℕ) → (span_if t p len).len ≡ len
 span_again true p len = refl
@@ -69,20 +68,20 @@ pub T_true : (b : Bool) → T b → b ≡ true
 T_true true h = refl
 T_true false h = absurd h
 
-types_flag : (t : Bool) (c : ExplicitCodecTypes) → (explicit_codec_types t).Good c → has_codec_types c ≡ t
+types_flag : (t : Bool) (c : Option CodecTypes) → (explicit_codec_types t).Good c → is_some c ≡ t
 unfolding explicit_codec_types ◌>>=◌ view
-types_flag true c g = T_true (has_codec_types c) ((types_told c).1 g.1)
-types_flag false c g = ap has_codec_types g
+types_flag true c g = T_true (is_some c) ((types_told c).1 g.1)
+types_flag false c g = ap is_some g
 
-cicp_flag : (t : Bool) (c : ExplicitCicp) → (explicit_cicp t).Good c → has_cicp c ≡ t
+cicp_flag : (t : Bool) (c : Option Cicp) → (explicit_cicp t).Good c → is_some c ≡ t
 unfolding explicit_cicp ◌>>=◌ view
-cicp_flag true c g = T_true (has_cicp c) ((cicp_told c).1 g.1)
-cicp_flag false c g = ap has_cicp g
+cicp_flag true c g = T_true (is_some c) ((cicp_told c).1 g.1)
+cicp_flag false c g = ap is_some g
 
-tmap_flag : (t : Bool) (c : TmapCicp) → (tmap_cicp t).Good c → has_tmap_cicp c ≡ t
+tmap_flag : (t : Bool) (c : Option TmapCicp) → (tmap_cicp t).Good c → is_some c ≡ t
 unfolding tmap_cicp ◌>>=◌ view
-tmap_flag true c g = T_true (has_tmap_cicp c) ((tmap_told c).1 g.1)
-tmap_flag false c g = ap has_tmap_cicp g
+tmap_flag true c g = T_true (is_some c) ((tmap_told c).1 g.1)
+tmap_flag false c g = ap is_some g
 
 float_flag : (t : Bool) (f : SampleFormat) → (sample_format t).Good f → is_float f ≡ t
 unfolding sample_format float_format integer_format ◌>>=◌ view
@@ -98,7 +97,7 @@ sub_of : (sub : ℕ) (c : MiniChroma) → (chroma sub).Good c → c.subsampling 
 unfolding chroma ◌>>=◌ view
 sub_of sub c g = sym (ap (λ (x : MiniChroma). x.subsampling) g.1)
 
-present_again : (t : Bool) (p n : ℕ) → is_present (chunk_if t p n) ≡ t
+present_again : (t : Bool) (p n : ℕ) → is_some (chunk_if t p n) ≡ t
 present_again true p n = refl
 present_again false p n = refl
 

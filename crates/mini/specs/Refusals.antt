@@ -10,7 +10,7 @@ use Rattle.mini.specs.Syntax.{header, trailing_bits}
 use Rattle.mini.specs.declared.MinimizedImage.{MinimizedImage}
 
 -- before the chunks
-header_told : (s : List ℕ) → T (is_reading_state (past_trailing_bits s (header.parse s (clean 0)).1))
+pub header_told : (s : List ℕ) → T (is_reading_state (past_trailing_bits s (header.parse s (clean 0)).1))
 unfolding past_trailing_bits
 header_told s =
     let b = (header.parse s (clean 0)).1 in

@@ -1,22 +1,20 @@
 -- A record positions aside, its chunks in the source lent with it, and when it is well placed: document 01, 'The record and its order of
 -- bits' ('Two records are the same when all fields and chunk bytes agree, positions aside') and refusal 10.
-use Rattle.std.specs.Prelude.{Bool, true, not, ◌&&◌, ◌||◌, List, [], ◌∷◌, ℕ, ◌+◌, leb, length, take, drop}
-use Rattle.mini.specs.declared.Chunk.{Chunk}
-use Rattle.mini.specs.declared.Chunk.TheVariants.{Absent, Present}
+use Rattle.std.specs.Prelude.{Bool, true, not, ◌&&◌, ◌||◌, List, [], ◌∷◌, ℕ, ◌+◌, leb, length, take, drop, Option, Some, None}
 use Rattle.mini.specs.declared.Span.{Span}
 use Rattle.mini.specs.declared.MinimizedImage.{MinimizedImage}
 
-abbrev pub chunk_len : Chunk → ℕ
-chunk_len Absent = 0
-chunk_len (Present at len) = len
+abbrev pub chunk_len : Option Span → ℕ
+chunk_len None = 0
+chunk_len (Some x) = x.len
 
 -- ---- a record, positions aside: they are set to 0
-abbrev pub unplaced_chunk : Chunk → Chunk
-unplaced_chunk Absent = Absent
-unplaced_chunk (Present at len) = Present 0 len
-
 abbrev pub unplaced_span : Span → Span
 unplaced_span x = record { at = 0; len = x.len }
+
+abbrev pub unplaced_chunk : Option Span → Option Span
+unplaced_chunk None = None
+unplaced_chunk (Some x) = Some (unplaced_span x)
 
 unfoldable pub unplaced : MinimizedImage → MinimizedImage
 unplaced i =
@@ -60,12 +58,12 @@ unplaced i =
     }
 
 -- ---- a record's chunks in the source lent with it, in stored order
-abbrev pub chunk_bytes : Chunk → List ℕ → List ℕ
-chunk_bytes Absent s = []
-chunk_bytes (Present at len) s = take len (drop at s)
-
 abbrev pub span_bytes : Span → List ℕ → List ℕ
 span_bytes x s = take x.len (drop x.at s)
+
+abbrev pub chunk_bytes : Option Span → List ℕ → List ℕ
+chunk_bytes None s = []
+chunk_bytes (Some x) s = span_bytes x s
 
 unfoldable pub chunks_of : MinimizedImage → List ℕ → List (List ℕ)
 chunks_of i s =
@@ -83,12 +81,12 @@ chunks_of i s =
     ∷ []
 
 -- ---- well placed: refusal 10 does not apply. The chunks of an absent gain map are not present.
-abbrev pub chunk_in : Chunk → ℕ → Bool
-chunk_in Absent n = true
-chunk_in (Present at len) n = leb (at + len) n
-
 abbrev pub span_in : Span → ℕ → Bool
 span_in x n = leb (x.at + x.len) n
+
+abbrev pub chunk_in : Option Span → ℕ → Bool
+chunk_in None n = true
+chunk_in (Some x) n = span_in x n
 
 abbrev pub gain_in : MinimizedImage → ℕ → Bool
 gain_in i n = chunk_in i.gain_map.codec_config n && (chunk_in i.gain_map.tmap_icc n && (span_in i.gain_map.metadata n && span_in i.gain_map.«data» n))

@@ -7,13 +7,13 @@
 --   sized t long short   long where t holds, else short                         choose t p q   p where t holds, else q
 -- (`tt` shows that the number is one of reading's refusals, 5 to 9.) A value is bound to the field's name; the last field of a group has its name behind it.
 -- The words that begin with `as` only put a group's values into a record (Views).
-use Rattle.std.specs.Prelude.{Bool, ◌&&◌, ◌||◌, List, ℕ, eqb, ltb, replicate}
+use Rattle.std.specs.Prelude.{Bool, ◌&&◌, ◌||◌, List, ℕ, eqb, ltb, replicate, Option}
 use Rattle.bits.specs.Format.{Format, ◌>>=◌, ◌>>◌, field, flag, minus1, offset, bytes, number, exactly, ensure, flag_if, field_if, minus1_if, bytes_for, listed, sized, choose}
 use Rattle.mini.specs.Cclv.{cclv_more}
-use Rattle.mini.specs.Views.{as_flags, as_dimensions, as_chroma, as_float, as_integer, high_depth, no_format, as_cicp, no_cicp, as_codec_types, no_codec_types, as_tmap_cicp, no_tmap_cicp, as_main_format, cclv_body, as_cclv, as_hdr_boxes, as_gain_map_header, as_chunk_sizes, as_header}
+use Rattle.mini.specs.Views.{as_flags, as_dimensions, as_chroma, as_float, as_integer, high_depth, no_format, absent, as_cicp, as_codec_types, as_tmap_cicp, as_main_format, cclv_body, as_cclv, as_hdr_boxes, as_gain_map_header, as_chunk_sizes, as_header}
 use Rattle.mini.specs.declared.SampleFormat.{SampleFormat}
-use Rattle.mini.specs.declared.ExplicitCodecTypes.{ExplicitCodecTypes}
-use Rattle.mini.specs.declared.ExplicitCicp.{ExplicitCicp}
+use Rattle.mini.specs.declared.CodecTypes.{CodecTypes}
+use Rattle.mini.specs.declared.Cicp.{Cicp}
 use Rattle.mini.specs.declared.TmapCicp.{TmapCicp}
 use Rattle.mini.specs.declared.MiniChroma.{MiniChroma}
 use Rattle.mini.specs.declared.Flags.{Flags}
@@ -65,22 +65,22 @@ integer_format =
 unfoldable pub sample_format : Bool → Format SampleFormat
 sample_format float_flag = choose float_flag float_format integer_format
 
-unfoldable pub explicit_cicp : Bool → Format ExplicitCicp
+unfoldable pub explicit_cicp : Bool → Format (Option Cicp)
 explicit_cicp explicit_cicp_flag =
     choose explicit_cicp_flag
     (as_cicp do
       colour_primaries ← field 8
       transfer_characteristics ← field 8
       field 8)  -- matrix_coefficients
-    no_cicp
+    absent
 
-unfoldable pub explicit_codec_types : Bool → Format ExplicitCodecTypes
+unfoldable pub explicit_codec_types : Bool → Format (Option CodecTypes)
 explicit_codec_types explicit_codec_types_flag =
     choose explicit_codec_types_flag
     (as_codec_types do
       infe_type ← field 32
       field 32)  -- codec_config_type
-    no_codec_types
+    absent
 
 unfoldable pub main_format : Flags → Format MainFormat
 main_format f = as_main_format do
@@ -90,7 +90,7 @@ main_format f = as_main_format do
   cicp ← explicit_cicp f.explicit_cicp
   explicit_codec_types f.explicit_codec_types
 
-unfoldable pub tmap_cicp : Bool → Format TmapCicp
+unfoldable pub tmap_cicp : Bool → Format (Option TmapCicp)
 tmap_cicp tmap_explicit_cicp_flag =
     choose tmap_explicit_cicp_flag
     (as_tmap_cicp do
@@ -98,7 +98,7 @@ tmap_cicp tmap_explicit_cicp_flag =
       tmap_transfer_characteristics ← field 8
       tmap_matrix_coefficients ← field 8
       flag)  -- tmap_full_range_flag
-    no_tmap_cicp
+    absent
 
 -- a dimension of the gain map: the main picture's where the flag says so
 unfoldable pub gain_map_dimension : Bool → Bool → Bool → ℕ → Format ℕ

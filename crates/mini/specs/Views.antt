@@ -1,18 +1,15 @@
 -- How the values of a group of fields, in the order read, make up a part of the record, and back. Which fields there are, how wide and
 -- in which order, stands in Syntax; here is only how tuples become records and back, with the laws. Assumes nothing.
-use Rattle.std.specs.Prelude.{◌≡◌, refl, Bool, true, false, not, List, [], ◌∷◌, ◌↔◌, ℕ, zero, suc, ◌+◌, ◌^◌, ◌<◌, T, eqb, ltb, take}
+use Rattle.std.specs.Prelude.{◌≡◌, refl, Bool, true, false, not, List, [], ◌∷◌, ◌↔◌, ℕ, zero, suc, ◌+◌, ◌^◌, ◌<◌, T, eqb, ltb, take, Option, Some, None, is_some}
 use Rattle.std.proofs.Common.{sym, ap, subst, arith, eqb→eq, ltb→lt, take_at, eq-eqb, ne_eqb}
 use Rattle.std.proofs.Math.Dec.{eqb_refl}
 use Rattle.bits.specs.Format.{Format, sized, padded37, field, bytes, is_list, list_is, const, choose, ◌>>=◌, view, renamed, flag, offset, number}
 use Rattle.mini.specs.Cclv.{cclv_more}
 use Rattle.mini.specs.declared.SampleFormat.{SampleFormat}
 use Rattle.mini.specs.declared.SampleFormat.TheVariants.{Integer, Float}
-use Rattle.mini.specs.declared.ExplicitCodecTypes.{ExplicitCodecTypes}
-use Rattle.mini.specs.declared.ExplicitCodecTypes.TheVariants as types_are
-use Rattle.mini.specs.declared.ExplicitCicp.{ExplicitCicp}
-use Rattle.mini.specs.declared.ExplicitCicp.TheVariants as cicp-is
+use Rattle.mini.specs.declared.CodecTypes.{CodecTypes}
+use Rattle.mini.specs.declared.Cicp.{Cicp}
 use Rattle.mini.specs.declared.TmapCicp.{TmapCicp}
-use Rattle.mini.specs.declared.TmapCicp.TheVariants as tmap-is
 use Rattle.mini.specs.declared.MiniChroma.{MiniChroma}
 use Rattle.mini.specs.declared.Flags.{Flags}
 use Rattle.mini.specs.declared.Dimensions.{Dimensions}
@@ -143,87 +140,63 @@ as_integer p h = view integer_to integer_from (λ f. is_format (Integer (bits_in
 abbrev pub no_format : Format SampleFormat
 no_format = const (Integer 0) (λ f. is_format f (Integer 0)) (λ f. format_is f (Integer 0))
 
+-- ---- what may be absent
+pub absent_is : {A : Type 0} (o : Option A) → T (not (is_some o)) ↔ (o ≡ None)
+absent_is None = (λ t. refl, λ e. tt)
+absent_is (Some x) = (λ t. absurd t, λ e. subst (λ o. T (not (is_some o))) (sym e) tt)
+
+abbrev pub absent : {A : Type 0} → Format (Option A)
+absent = const None (λ o. not (is_some o)) absent_is
+
 -- ---- colour, where it is told
-abbrev pub cicp_to : ℕ × (ℕ × ℕ) → ExplicitCicp
-cicp_to (primaries, (transfer, matrix)) = cicp-is.Present primaries transfer matrix
+abbrev pub cicp_to : ℕ × (ℕ × ℕ) → Option Cicp
+cicp_to (primaries, (transfer, matrix)) = Some (record { primaries = primaries; transfer = transfer; matrix = matrix })
 
-abbrev pub cicp_from : ExplicitCicp → ℕ × (ℕ × ℕ)
-cicp_from cicp-is.Absent = (0, (0, 0))
-cicp_from (cicp-is.Present primaries transfer matrix) = (primaries, (transfer, matrix))
+abbrev pub cicp_from : Option Cicp → ℕ × (ℕ × ℕ)
+cicp_from None = (0, (0, 0))
+cicp_from (Some c) = (c.primaries, (c.transfer, c.matrix))
 
-abbrev pub has_cicp : ExplicitCicp → Bool
-has_cicp cicp-is.Absent = false
-has_cicp (cicp-is.Present primaries transfer matrix) = true
+pub cicp_told : (c : Option Cicp) → T (is_some c) ↔ (cicp_to (cicp_from c) ≡ c)
+cicp_told None = (λ t. absurd t, λ e. subst (λ (c : Option Cicp). T (is_some c)) e tt)
+cicp_told (Some c) = (λ t. refl, λ e. tt)
 
-pub cicp_told : (c : ExplicitCicp) → T (has_cicp c) ↔ (cicp_to (cicp_from c) ≡ c)
-cicp_told cicp-is.Absent = (λ t. absurd t, λ e. subst (λ c. T (has_cicp c)) e tt)
-cicp_told (cicp-is.Present p t m) = (λ t. refl, λ e. tt)
-
-pub cicp_not : (c : ExplicitCicp) → T (not (has_cicp c)) ↔ (c ≡ cicp-is.Absent)
-cicp_not cicp-is.Absent = (λ t. refl, λ e. tt)
-cicp_not (cicp-is.Present p t m) = (λ t. absurd t, λ e. subst (λ c. T (has_cicp c)) e tt)
-
-abbrev pub as_cicp : Format (ℕ × (ℕ × ℕ)) → Format ExplicitCicp
-as_cicp p = view cicp_to cicp_from has_cicp p (λ x g. refl) cicp_told
-
-abbrev pub no_cicp : Format ExplicitCicp
-no_cicp = const cicp-is.Absent (λ c. not (has_cicp c)) cicp_not
+abbrev pub as_cicp : Format (ℕ × (ℕ × ℕ)) → Format (Option Cicp)
+as_cicp p = view cicp_to cicp_from is_some p (λ x g. refl) cicp_told
 
 -- ---- codec types, where they are told
-abbrev pub codec_types_to : ℕ × ℕ → ExplicitCodecTypes
-codec_types_to (infe, config) = types_are.Present infe config
+abbrev pub codec_types_to : ℕ × ℕ → Option CodecTypes
+codec_types_to (infe, config) = Some (record { infe_type = infe; codec_config_type = config })
 
-abbrev pub codec_types_from : ExplicitCodecTypes → ℕ × ℕ
-codec_types_from types_are.Absent = (0, 0)
-codec_types_from (types_are.Present infe config) = (infe, config)
+abbrev pub codec_types_from : Option CodecTypes → ℕ × ℕ
+codec_types_from None = (0, 0)
+codec_types_from (Some c) = (c.infe_type, c.codec_config_type)
 
-abbrev pub has_codec_types : ExplicitCodecTypes → Bool
-has_codec_types types_are.Absent = false
-has_codec_types (types_are.Present infe config) = true
+pub types_told : (c : Option CodecTypes) → T (is_some c) ↔ (codec_types_to (codec_types_from c) ≡ c)
+types_told None = (λ t. absurd t, λ e. subst (λ (c : Option CodecTypes). T (is_some c)) e tt)
+types_told (Some c) = (λ t. refl, λ e. tt)
 
-pub types_told : (c : ExplicitCodecTypes) → T (has_codec_types c) ↔ (codec_types_to (codec_types_from c) ≡ c)
-types_told types_are.Absent = (λ t. absurd t, λ e. subst (λ c. T (has_codec_types c)) e tt)
-types_told (types_are.Present i c) = (λ t. refl, λ e. tt)
-
-pub types_not : (c : ExplicitCodecTypes) → T (not (has_codec_types c)) ↔ (c ≡ types_are.Absent)
-types_not types_are.Absent = (λ t. refl, λ e. tt)
-types_not (types_are.Present i c) = (λ t. absurd t, λ e. subst (λ c. T (has_codec_types c)) e tt)
-
-abbrev pub as_codec_types : Format (ℕ × ℕ) → Format ExplicitCodecTypes
-as_codec_types p = view codec_types_to codec_types_from has_codec_types p (λ x g. refl) types_told
-
-abbrev pub no_codec_types : Format ExplicitCodecTypes
-no_codec_types = const types_are.Absent (λ c. not (has_codec_types c)) types_not
+abbrev pub as_codec_types : Format (ℕ × ℕ) → Format (Option CodecTypes)
+as_codec_types p = view codec_types_to codec_types_from is_some p (λ x g. refl) types_told
 
 -- ---- the tone-mapped picture's colour, where it is told
-abbrev pub tmap_cicp_to : ℕ × (ℕ × (ℕ × Bool)) → TmapCicp
-tmap_cicp_to (primaries, (transfer, (matrix, full))) = tmap-is.Present primaries transfer matrix full
+abbrev pub tmap_cicp_to : ℕ × (ℕ × (ℕ × Bool)) → Option TmapCicp
+tmap_cicp_to (primaries, (transfer, (matrix, full))) =
+    Some (record { primaries = primaries; transfer = transfer; matrix = matrix; full_range = full })
 
-abbrev pub tmap_cicp_from : TmapCicp → ℕ × (ℕ × (ℕ × Bool))
-tmap_cicp_from tmap-is.Absent = (0, (0, (0, false)))
-tmap_cicp_from (tmap-is.Present primaries transfer matrix full) = (primaries, (transfer, (matrix, full)))
+abbrev pub tmap_cicp_from : Option TmapCicp → ℕ × (ℕ × (ℕ × Bool))
+tmap_cicp_from None = (0, (0, (0, false)))
+tmap_cicp_from (Some c) = (c.primaries, (c.transfer, (c.matrix, c.full_range)))
 
-abbrev pub has_tmap_cicp : TmapCicp → Bool
-has_tmap_cicp tmap-is.Absent = false
-has_tmap_cicp (tmap-is.Present primaries transfer matrix full) = true
+pub tmap_told : (c : Option TmapCicp) → T (is_some c) ↔ (tmap_cicp_to (tmap_cicp_from c) ≡ c)
+tmap_told None = (λ t. absurd t, λ e. subst (λ (c : Option TmapCicp). T (is_some c)) e tt)
+tmap_told (Some c) = (λ t. refl, λ e. tt)
 
-pub tmap_told : (c : TmapCicp) → T (has_tmap_cicp c) ↔ (tmap_cicp_to (tmap_cicp_from c) ≡ c)
-tmap_told tmap-is.Absent = (λ t. absurd t, λ e. subst (λ c. T (has_tmap_cicp c)) e tt)
-tmap_told (tmap-is.Present p t m f) = (λ t. refl, λ e. tt)
-
-pub tmap_not : (c : TmapCicp) → T (not (has_tmap_cicp c)) ↔ (c ≡ tmap-is.Absent)
-tmap_not tmap-is.Absent = (λ t. refl, λ e. tt)
-tmap_not (tmap-is.Present p t m f) = (λ t. absurd t, λ e. subst (λ c. T (has_tmap_cicp c)) e tt)
-
-abbrev pub as_tmap_cicp : Format (ℕ × (ℕ × (ℕ × Bool))) → Format TmapCicp
-as_tmap_cicp p = view tmap_cicp_to tmap_cicp_from has_tmap_cicp p (λ x g. refl) tmap_told
-
-abbrev pub no_tmap_cicp : Format TmapCicp
-no_tmap_cicp = const tmap-is.Absent (λ c. not (has_tmap_cicp c)) tmap_not
+abbrev pub as_tmap_cicp : Format (ℕ × (ℕ × (ℕ × Bool))) → Format (Option TmapCicp)
+as_tmap_cicp p = view tmap_cicp_to tmap_cicp_from is_some p (λ x g. refl) tmap_told
 
 -- ---- the main picture's samples and coding
 abbrev pub MainParts : Type 0
-MainParts = MiniChroma × (SampleFormat × (Bool × (ExplicitCicp × ExplicitCodecTypes)))
+MainParts = MiniChroma × (SampleFormat × (Bool × (Option Cicp × Option CodecTypes)))
 
 abbrev pub main_to : MainParts → MainFormat
 main_to (chroma, (format, (premultiplied, (cicp, types)))) =
@@ -288,7 +261,7 @@ as_hdr_boxes p = renamed hdr_to hdr_from p (λ x. refl) (λ b. refl)
 
 -- ---- the gain map's part
 abbrev pub GainMapParts : Type 0
-GainMapParts = Bool × (Bool × (ℕ × (ℕ × (ℕ × (Bool × (ℕ × (MiniChroma × (Bool × (SampleFormat × (Bool × (Bool × TmapCicp)))))))))))
+GainMapParts = Bool × (Bool × (ℕ × (ℕ × (ℕ × (Bool × (ℕ × (MiniChroma × (Bool × (SampleFormat × (Bool × (Bool × Option TmapCicp)))))))))))
 
 abbrev pub gain_map_to : GainMapParts → GainMapHeader
 gain_map_to (present, (same, (width, (height, (matrix, (full, (subsampling, (chroma, (float, (format, (icc, (explicit, cicp)))))))))))) =

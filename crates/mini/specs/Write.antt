@@ -1,16 +1,14 @@
 -- Writing a record: the header that it has under given choices of width, the narrowest choices, the payload, and which records any
 -- payload gives (refusal 11). Document 01, 'src/mini.rs, writing'.
-use Rattle.std.specs.Prelude.{Bool, true, ◌&&◌, ◌||◌, List, ◌++◌, ℕ, eqb, ltb}
+use Rattle.std.specs.Prelude.{Bool, true, ◌&&◌, ◌||◌, List, ◌++◌, ℕ, eqb, ltb, Option, Some, None, is_some}
 use Rattle.bits.specs.State.{bytes_of}
-use Rattle.mini.specs.Chunks.{is_present}
 use Rattle.mini.specs.Cut.{joined}
 use Rattle.mini.specs.Payload.{header_bits, chunks_start}
 use Rattle.mini.specs.Same.{chunk_len, chunks_of}
 use Rattle.mini.specs.Syntax.{header}
-use Rattle.mini.specs.Views.{is_float, has_cicp, has_codec_types, has_tmap_cicp}
-use Rattle.mini.specs.declared.Chunk.{Chunk}
-use Rattle.mini.specs.declared.Chunk.TheVariants.{Absent, Present}
+use Rattle.mini.specs.Views.{is_float}
 use Rattle.mini.specs.declared.Header.{Header}
+use Rattle.mini.specs.declared.Span.{Span}
 use Rattle.mini.specs.declared.MinimizedImage.{MinimizedImage}
 
 -- ---- the choices of width
@@ -42,15 +40,15 @@ header_with i c =
     record {
       flags =
           record {
-            explicit_codec_types = has_codec_types i.explicit_codec_types;
+            explicit_codec_types = is_some i.explicit_codec_types;
             float = is_float i.format;
             full_range = i.full_range;
             alpha = i.alpha;
-            explicit_cicp = has_cicp i.explicit_cicp;
+            explicit_cicp = is_some i.explicit_cicp;
             hdr = i.hdr;
-            icc = is_present i.icc;
-            exif = is_present i.exif;
-            xmp = is_present i.xmp;
+            icc = is_some i.icc;
+            exif = is_some i.exif;
+            xmp = is_some i.xmp;
             subsampling = i.chroma.subsampling;
             orientation = i.orientation;
           };
@@ -69,8 +67,8 @@ header_with i c =
             chroma = i.gain_map.chroma;
             float = is_float i.gain_map.format;
             format = i.gain_map.format;
-            tmap_icc = is_present i.gain_map.tmap_icc;
-            tmap_explicit_cicp = has_tmap_cicp i.gain_map.tmap_cicp;
+            tmap_icc = is_some i.gain_map.tmap_icc;
+            tmap_explicit_cicp = is_some i.gain_map.tmap_cicp;
             tmap_cicp = i.gain_map.tmap_cicp;
           };
       hdr_boxes = i.hdr_boxes;
@@ -106,9 +104,9 @@ unfoldable pub payload_of : MinimizedImage → List ℕ → List ℕ
 payload_of i s = payload_with (header_of i) (chunks_of i s)
 
 -- ---- refusal 11 does not apply: the header's format takes the record's numbers, and no empty configuration is held as present
-abbrev pub not_empty : Chunk → Bool
-not_empty Absent = true
-not_empty (Present at len) = ltb 0 len
+abbrev pub not_empty : Option Span → Bool
+not_empty None = true
+not_empty (Some x) = ltb 0 x.len
 
 unfoldable pub writable : MinimizedImage → Bool
 writable i = header.good (header_of i) && (not_empty i.alpha_codec_config && not_empty i.gain_map.codec_config)

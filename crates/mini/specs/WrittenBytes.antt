@@ -1,5 +1,5 @@
 -- What is written is bytes. Assumes nothing.
-use Rattle.std.specs.Prelude.{List, [], ℕ, T, drop}
+use Rattle.std.specs.Prelude.{List, [], ℕ, T, drop, Option, Some, None}
 use Rattle.std.proofs.Math.Pow.{are_bytes}
 use Rattle.bits.specs.State.{bytes_of}
 use Rattle.bits.specs.Format.{packed-bytes}
@@ -7,14 +7,12 @@ use Rattle.mini.specs.Bytes.{bytes-append, bytes_take, bytes_drop}
 use Rattle.mini.specs.Payload.{header_bits, chunks_start}
 use Rattle.mini.specs.Same.{chunk_bytes, span_bytes, chunks_of}
 use Rattle.mini.specs.Write.{payload_with, payload_of, header_of}
-use Rattle.mini.specs.declared.Chunk.{Chunk}
-use Rattle.mini.specs.declared.Chunk.TheVariants.{Absent, Present}
 use Rattle.mini.specs.declared.Span.{Span}
 use Rattle.mini.specs.declared.MinimizedImage.{MinimizedImage}
 
-chunk_bytes_lem : (c : Chunk) (s : List ℕ) → T (are_bytes s) → T (are_bytes (chunk_bytes c s))
-chunk_bytes_lem Absent s h = tt
-chunk_bytes_lem (Present at len) s h = bytes_take len (drop at s) (bytes_drop at s h)
+chunk_bytes_lem : (c : Option Span) (s : List ℕ) → T (are_bytes s) → T (are_bytes (chunk_bytes c s))
+chunk_bytes_lem None s h = tt
+chunk_bytes_lem (Some x) s h = bytes_take x.len (drop x.at s) (bytes_drop x.at s h)
 
 pub written-bytes : (i : MinimizedImage) (s : List ℕ) → T (are_bytes s) → T (are_bytes (payload_of i s))
 unfolding payload_of payload_with chunks_of

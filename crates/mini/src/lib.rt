@@ -3,60 +3,68 @@
 
 ghost use Rattle.std.specs.Prelude.{◌≡◌, ◌≤◌};
 ghost use Rattle.mini.specs.Cclv.{cclv_more};
-ghost use Rattle.mini.specs.Chunks.{is_present};
 ghost use Rattle.mini.specs.Cicp.{table_cicp, cicp_of};
 ghost use Rattle.mini.specs.DisplayProfile.{display_conditions, meets_display_profile};
 ghost use Rattle.mini.specs.Same.{chunk_len};
 ghost use Rattle.mini.specs.ShownSize.{shown_size};
-ghost use Rattle.mini.specs.Views.{is_float, has_cicp, has_codec_types, has_tmap_cicp};
+ghost use Rattle.mini.specs.Views.{is_float, bits_in};
 
-#[derive(Clone, Copy)]
+use bits::Widths;
+
+// The widths of the fields that have a long form and a short one.
+pub const DIMENSION: Widths = Widths { long: 15, short: 7 };
+
+pub const METADATA: Widths = Widths {
+    long: 20,
+    short: 10,
+};
+
+pub const CODEC_CONFIG: Widths = Widths { long: 12, short: 3 };
+
+pub const ITEM_DATA: Widths = Widths {
+    long: 28,
+    short: 15,
+};
+
+#[derive(Clone, Copy, Debug, PartialEq, Eq)]
 pub enum SampleFormat {
     Integer { bits: u8 },
     Float { bits: u8 },
 }
 
-// Absent: inferred from the brand in the file type's minor version.
-#[derive(Clone, Copy)]
-pub enum ExplicitCodecTypes {
-    Absent,
-    Present {
-        infe_type: u32,
-        codec_config_type: u32,
-    },
+// The types of the main item and of its configuration.
+#[derive(Clone, Copy, Debug, PartialEq, Eq)]
+pub struct CodecTypes {
+    pub infe_type: u32,
+    pub codec_config_type: u32,
 }
 
-// Absent: Table O.3.
-#[derive(Clone, Copy)]
-pub enum ExplicitCicp {
-    Absent,
-    Present {
-        primaries: u8,
-        transfer: u8,
-        matrix: u8,
-    },
+// Colour primaries, transfer characteristics and matrix coefficients.
+#[derive(Clone, Copy, Debug, PartialEq, Eq)]
+pub struct Cicp {
+    pub primaries: u8,
+    pub transfer: u8,
+    pub matrix: u8,
 }
 
-// Absent: sRGB, Table O.5.
-#[derive(Clone, Copy)]
-pub enum TmapCicp {
-    Absent,
-    Present {
-        primaries: u8,
-        transfer: u8,
-        matrix: u8,
-        full_range: bool,
-    },
+// The same of the tone-mapped picture, with its range.
+#[derive(Clone, Copy, Debug, PartialEq, Eq)]
+pub struct TmapCicp {
+    pub primaries: u8,
+    pub transfer: u8,
+    pub matrix: u8,
+    pub full_range: bool,
 }
 
-#[derive(Clone, Copy)]
+#[derive(Clone, Copy, Debug, PartialEq, Eq)]
 pub struct MiniChroma {
     pub subsampling: u8,
     pub horizontally_centered: bool,
     pub vertically_centered: bool,
 }
 
-// The bodies, each with zeros where it is absent, and after a cclv's length.
+// The bodies, each with zeros where it is absent, and after a cclv's length. By a rule of the project a flag stands beside each, in place of an
+// Option, since they are arrays.
 #[derive(Clone, Copy)]
 pub struct MiniHdrBoxes {
     pub has_clli: bool,
@@ -73,19 +81,15 @@ pub struct MiniHdrBoxes {
     pub ndwt: [u8; 4],
 }
 
-// A part of the payload that may be absent.
-#[derive(Clone, Copy)]
-pub enum Chunk {
-    Absent,
-    Present { at: usize, len: usize },
-}
-
-// A part of the payload that is always there, perhaps empty.
-#[derive(Clone, Copy)]
+// A part of the payload, perhaps empty.
+#[derive(Clone, Copy, Debug, PartialEq, Eq)]
 pub struct Span {
     pub at: usize,
     pub len: usize,
 }
+
+// A part of the payload that may be absent.
+pub type Chunk = Option<Span>;
 
 #[derive(Clone, Copy)]
 pub struct MiniGainMap {
@@ -95,7 +99,8 @@ pub struct MiniGainMap {
     pub full_range: bool,
     pub chroma: MiniChroma,
     pub format: SampleFormat,
-    pub tmap_cicp: TmapCicp,
+    // None: sRGB, Table O.5.
+    pub tmap_cicp: Option<TmapCicp>,
     pub tmap_icc: Chunk,
     pub tmap_hdr: MiniHdrBoxes,
     pub metadata: Span,
@@ -103,17 +108,20 @@ pub struct MiniGainMap {
     pub data: Span,
 }
 
-// The gain map is blank where has_gain_map is false.
+// The gain map is blank where has_gain_map is false. By a rule of the project the flag stands beside it, in place of an Option, since it holds
+// arrays.
 #[derive(Clone, Copy)]
 pub struct MinimizedImage {
-    pub explicit_codec_types: ExplicitCodecTypes,
+    // None: inferred from the brand in the file type's minor version.
+    pub explicit_codec_types: Option<CodecTypes>,
     pub format: SampleFormat,
     pub full_range: bool,
     pub chroma: MiniChroma,
     pub orientation: u8,
     pub width: u32,
     pub height: u32,
-    pub explicit_cicp: ExplicitCicp,
+    // None: Table O.3.
+    pub explicit_cicp: Option<Cicp>,
     pub icc: Chunk,
     pub alpha: bool,
     pub alpha_premultiplied: bool,
@@ -128,13 +136,6 @@ pub struct MinimizedImage {
     pub exif_xmp_compressed: bool,
     pub exif: Chunk,
     pub xmp: Chunk,
-}
-
-// A refusal's number, 0 where there is none, and the record, blank where there is one.
-#[derive(Clone, Copy)]
-pub struct Reading {
-    pub refusal: u8,
-    pub image: MinimizedImage,
 }
 
 // The header's first sixteen bits.
@@ -166,11 +167,11 @@ pub struct MainFormat {
     pub chroma: MiniChroma,
     pub format: SampleFormat,
     pub alpha_premultiplied: bool,
-    pub explicit_cicp: ExplicitCicp,
-    pub explicit_codec_types: ExplicitCodecTypes,
+    pub explicit_cicp: Option<Cicp>,
+    pub explicit_codec_types: Option<CodecTypes>,
 }
 
-// The gain map's part of the header, before the HDR boxes.
+// The gain map's part of the header, before the HDR boxes: blank where `present` is false, as the record's gain map is.
 #[derive(Clone, Copy)]
 pub struct GainMapHeader {
     pub present: bool,
@@ -185,7 +186,7 @@ pub struct GainMapHeader {
     pub format: SampleFormat,
     pub tmap_icc: bool,
     pub tmap_explicit_cicp: bool,
-    pub tmap_cicp: TmapCicp,
+    pub tmap_cicp: Option<TmapCicp>,
 }
 
 // The sizes of the chunks in bytes, 0 for what is absent, with the flags for the long forms.
@@ -236,14 +237,6 @@ pub struct Header {
     pub sizes: ChunkSizes,
 }
 
-// Colour primaries, transfer characteristics and matrix coefficients.
-#[derive(Clone, Copy)]
-pub struct Cicp {
-    pub primaries: u8,
-    pub transfer: u8,
-    pub matrix: u8,
-}
-
 // The number of an item in the equivalent file (mini.rs, item_id); document 01: the numbers 1 to 7 belong to the item kind.
 #[derive(Clone, Copy)]
 pub struct ItemKind(pub u16);
@@ -265,14 +258,14 @@ impl ItemKind {
 }
 
 // Width and height.
-#[derive(Clone, Copy)]
+#[derive(Clone, Copy, Debug, PartialEq, Eq)]
 pub struct Size {
     pub width: u32,
     pub height: u32,
 }
 
 // What the desk check asks of a record, each by itself (document 01); the size is the one as shown.
-#[derive(Clone, Copy)]
+#[derive(Clone, Copy, Debug, PartialEq, Eq)]
 pub struct DisplayConditions {
     pub integer_samples: bool,
     pub no_gain_map: bool,
@@ -285,84 +278,32 @@ const MAX_DISPLAY_WIDTH: u32 = 1920;
 
 const MAX_DISPLAY_HEIGHT: u32 = 1080;
 
-impl Chunk {
-    pub fn is_present(self) -> bool
-        ensures { result ≡ is_present self }
-    {
-        match self {
-            Chunk::Absent => false,
-            Chunk::Present { at: _, len: _ } => true,
-        }
-    }
-
-    // 0 where it is absent.
-    pub fn len(self) -> usize
-        ensures { result ≡ chunk_len self }
-    {
-        match self {
-            Chunk::Absent => 0,
-            Chunk::Present { at: _, len } => len,
-        }
-    }
-}
-
-impl ExplicitCodecTypes {
-    pub fn is_present(self) -> bool
-        ensures { result ≡ has_codec_types self }
-    {
-        match self {
-            ExplicitCodecTypes::Absent => false,
-            ExplicitCodecTypes::Present {
-                infe_type: _,
-                codec_config_type: _,
-            } => true,
-        }
-    }
-}
-
-impl ExplicitCicp {
-    pub fn is_present(self) -> bool
-        ensures { result ≡ has_cicp self }
-    {
-        match self {
-            ExplicitCicp::Absent => false,
-            ExplicitCicp::Present {
-                primaries: _,
-                transfer: _,
-                matrix: _,
-            } => true,
-        }
-    }
-}
-
-impl TmapCicp {
-    pub fn is_present(self) -> bool
-        ensures { result ≡ has_tmap_cicp self }
-    {
-        match self {
-            TmapCicp::Absent => false,
-            TmapCicp::Present {
-                primaries: _,
-                transfer: _,
-                matrix: _,
-                full_range: _,
-            } => true,
-        }
-    }
+// 0 where it is absent.
+pub fn chunk_len(chunk: Chunk) -> usize
+    ensures { result ≡ chunk_len chunk }
+{
+    chunk.map_or(0, |span| span.len)
 }
 
 impl SampleFormat {
+    // The bits of a sample.
+    pub fn bits(self) -> u8
+        ensures { result ≡ bits_in self }
+    {
+        match self {
+            SampleFormat::Integer { bits } | SampleFormat::Float { bits } => bits,
+        }
+    }
+
     pub fn is_float(self) -> bool
         ensures { result ≡ is_float self }
     {
-        match self {
-            SampleFormat::Integer { bits: _ } => false,
-            SampleFormat::Float { bits: _ } => true,
-        }
+        matches!(self, SampleFormat::Float { .. })
     }
 }
 
 // How many bytes follow a cclv's first.
+#[tactic(auto, unfolding(crate::specs::Cclv::cclv_more))]
 pub fn cclv_more(flags: u8) -> usize
     ensures value { result ≡ cclv_more flags }
     ensures upper_bound { result ≤ 36 }
@@ -375,9 +316,8 @@ pub fn cclv_more(flags: u8) -> usize
 fn table_cicp(icc: bool, subsampling: u8) -> Cicp
     ensures { result ≡ table_cicp icc subsampling }
 {
-    let primaries = bits::pick(icc, 2, 1);
-    let transfer = bits::pick(icc, 2, 13);
-    let matrix = bits::pick(subsampling == 0, 2, 6);
+    let (primaries, transfer) = if icc { (2, 2) } else { (1, 13) };
+    let matrix = if subsampling == 0 { 2 } else { 6 };
     Cicp {
         primaries,
         transfer,
@@ -390,21 +330,8 @@ impl MinimizedImage {
     pub fn cicp(self) -> Cicp
         ensures { result ≡ cicp_of self }
     {
-        let explicit_cicp = self.explicit_cicp;
-        let ExplicitCicp::Present {
-            primaries,
-            transfer,
-            matrix,
-        } = explicit_cicp
-        else {
-            let icc = self.icc;
-            return table_cicp(icc.is_present(), self.chroma.subsampling);
-        };
-        Cicp {
-            primaries,
-            transfer,
-            matrix,
-        }
+        self.explicit_cicp
+            .unwrap_or(table_cicp(self.icc.is_some(), self.chroma.subsampling))
     }
 
     // Width and height as shown: the orientations 5 to 8 exchange them.
@@ -424,18 +351,15 @@ impl MinimizedImage {
         }
     }
 
+    #[tactic(auto, unfolding(crate::specs::DisplayProfile::display_conditions))]
     pub fn display_conditions(self) -> DisplayConditions
         ensures { result ≡ display_conditions self }
     {
-        let format = self.format;
-        let exif = self.exif;
-        let float = format.is_float();
-        let exif_present = exif.is_present();
         let size = self.shown_size();
         DisplayConditions {
-            integer_samples: !float,
+            integer_samples: !self.format.is_float(),
             no_gain_map: !self.has_gain_map,
-            exif_present,
+            exif_present: self.exif.is_some(),
             width_fits: size.width <= MAX_DISPLAY_WIDTH,
             height_fits: size.height <= MAX_DISPLAY_HEIGHT,
         }
@@ -446,8 +370,6 @@ impl MinimizedImage {
         ensures { result ≡ meets_display_profile self }
     {
         let c = self.display_conditions();
-        let size = bits::both(c.width_fits, c.height_fits);
-        let plain = bits::both(c.no_gain_map, bits::both(c.exif_present, size));
-        bits::both(c.integer_samples, plain)
+        c.integer_samples && c.no_gain_map && c.exif_present && c.width_fits && c.height_fits
     }
 }

@@ -32,6 +32,14 @@ pub overwrite-append : (out : List ℕ) (at : ℕ) (xs bs : List ℕ)
 unfolding overwrite
 overwrite-append out at xs bs = sets-append out at xs bs
 
+-- so is a write of a byte and then of a run
+pub overwrite_cons : (out : List ℕ) (at b : ℕ) (bs : List ℕ)
+    → overwrite out at (b ∷ bs) ≡ overwrite (overwrite out at (b ∷ [])) (at + 1) bs
+overwrite_cons out at b bs = overwrite-append out at (b ∷ []) bs
+
+-- by which `grind` sees that writes one after another are one write of them all
+pub ruleset writes = (overwrite_cons, overwrite-append, length-append)
+
 sets-part : (out : List ℕ) (a k : ℕ) (bs : List ℕ) → take a out ++ sets (drop a out) k bs ≡ sets out (a + k) bs
 sets-part out a k [] = take-append-drop a out
 sets-part out a k (b ∷ bs) =

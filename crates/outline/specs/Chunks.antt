@@ -1,10 +1,8 @@
 -- The chunks of a payload by number (docs/ABI.md, `bustardcase_outline`): a chunk's number is its place in the order in which the header gives
 -- the sizes. ISO/IEC 23008-12 Amd 2, Annex O.3.2; document 01, 'The record and its order of bits'.
-use Rattle.std.specs.Prelude.{◌≡◌, ℕ, ◌+◌, ◌-◌, Bool, true, List, [], ◌∷◌, map, length, slice_index, slice_index_or, refl}
+use Rattle.std.specs.Prelude.{◌≡◌, ℕ, ◌+◌, ◌-◌, Bool, true, List, [], ◌∷◌, map, length, slice_index, slice_index_or, refl, Option, None}
 use Rattle.mini.specs.Chunks.{given_sizes, stored_sizes, chunk_if}
 use Rattle.mini.specs.Same.{chunk_len}
-use Rattle.mini.specs.declared.Chunk.{Chunk}
-use Rattle.mini.specs.declared.Chunk.TheVariants.{Absent}
 use Rattle.mini.specs.declared.ChunkSizes.{ChunkSizes}
 use Rattle.mini.specs.declared.MinimizedImage.{MinimizedImage}
 use Rattle.mini.specs.declared.Span.{Span}
@@ -21,10 +19,10 @@ unfoldable pub size_of : ChunkSizes → ℕ → ℕ
 size_of z n = slice_index (given_sizes z) (n - 1)
 
 -- a span of the record, present where its owner is
-abbrev pub span_chunk : Bool → Span → Chunk
+abbrev pub span_chunk : Bool → Span → Option Span
 span_chunk on x = chunk_if on x.at x.len
 
-unfoldable pub given_chunks : MinimizedImage → List Chunk
+unfoldable pub given_chunks : MinimizedImage → List (Option Span)
 given_chunks i =
     let g = i.gain_map in
     i.icc
@@ -40,8 +38,8 @@ given_chunks i =
     ∷ i.xmp
     ∷ []
 
-unfoldable pub chunk_of : MinimizedImage → ℕ → Chunk
-chunk_of i n = slice_index_or (given_chunks i) (n - 1) Absent
+unfoldable pub chunk_of : MinimizedImage → ℕ → Option Span
+chunk_of i n = slice_index_or (given_chunks i) (n - 1) None
 
 -- the end of the last chunk: Exif and XMP lie after the main data
 unfoldable pub chunks_end : MinimizedImage → ℕ

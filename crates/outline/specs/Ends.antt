@@ -1,10 +1,11 @@
 -- Where the twelve parts of a payload's header end, in bits from the payload's start (docs/ABI.md, `bustardcase_outline`): the places of the
 -- states that reading passes through, by the formats of mini's Syntax, which has these parts in this order.
-use Rattle.std.specs.Prelude.{◌≡◌, ℕ, List, [], ◌∷◌, ◌++◌, refl}
+use Rattle.std.specs.Prelude.{◌≡◌, ℕ, List, [], ◌∷◌, ◌++◌, map, refl}
 use Rattle.std.proofs.Common.{sym, ap, ◌∙◌}
 use Rattle.bits.specs.State.{State, clean}
 use Rattle.bits.specs.Format.{Format, flag_if, view, ◌>>=◌}
 use Rattle.bits.specs.Run.{state, Run}
+use Rattle.bits.specs.declared.Bits.{Bits}
 use Rattle.mini.specs.Read.{past_trailing_bits}
 use Rattle.mini.specs.Syntax.{flags, dimensions, chroma, sample_format, explicit_cicp, explicit_codec_types, main_format, gain_map_header, hdr_boxes, chunk_sizes, header}
 use Rattle.outline.specs.declared.ends.HeaderEnds.{HeaderEnds}
@@ -45,29 +46,28 @@ part_ends s =
     let r = header_parts s (clean 0) in
     r.0 ++ ((past_trailing_bits s r.1).at ∷ [])
 
--- ---- the places that the code holds, the first six and the others
-unfoldable pub first_places : HeaderEnds → List ℕ
-first_places e =
-    (state e.flags).at
-    ∷ (state e.dimensions).at
-    ∷ (state e.chroma).at
-    ∷ (state e.format).at
-    ∷ (state e.premultiplied).at
-    ∷ (state e.cicp).at
-    ∷ []
+-- ---- the places that the code holds
+abbrev pub place : Bits → ℕ
+place b = (state b).at
 
-unfoldable pub last_places : HeaderEnds → List ℕ
-last_places e =
-    (state e.codec_types).at
-    ∷ (state e.gain_map).at
-    ∷ (state e.hdr_boxes).at
-    ∷ (state e.tmap_hdr).at
-    ∷ (state e.sizes).at
-    ∷ (state e.trailing).at
+abbrev pub ends : HeaderEnds → List Bits
+ends e =
+    e.flags
+    ∷ e.dimensions
+    ∷ e.chroma
+    ∷ e.format
+    ∷ e.premultiplied
+    ∷ e.cicp
+    ∷ e.codec_types
+    ∷ e.gain_map
+    ∷ e.hdr_boxes
+    ∷ e.tmap_hdr
+    ∷ e.sizes
+    ∷ e.trailing
     ∷ []
 
 unfoldable pub places : HeaderEnds → List ℕ
-places e = first_places e ++ last_places e
+places e = map place (ends e)
 
 -- ---- how a function that reads part by part is shown to pass through these places
 pub part_read : {A : Type 0} {s : List ℕ} {b c : State} {x : A} (p : Format A) (k : A → Parts) → Run p s b x c

@@ -1,6 +1,6 @@
 -- The outline of a payload as 500 bytes (docs/ABI.md, `bustardcase_outline`): the ends of the parts of the header, the chunks in both orders, and how
 -- many bytes after them are ignored; numbers big-endian.
-use Rattle.std.specs.Prelude.{◌≡◌, ℕ, List, [], ◌∷◌, ◌++◌, map, length}
+use Rattle.std.specs.Prelude.{◌≡◌, ℕ, List, [], ◌∷◌, ◌++◌, map, length, Option}
 use Rattle.std.proofs.Common.{sym, ap, ◌∙◌, length-append}
 use Rattle.std.proofs.lemmas.List.{map-append}
 use Rattle.octets.specs.BigEndian.{be}
@@ -8,8 +8,8 @@ use Rattle.octets.specs.BigEndianLaws.{length-be}
 use Rattle.layout.specs.PartBytes.{chunk_bytes, length_chunk}
 use Rattle.mini.specs.Cut.{joined, joined-append}
 use Rattle.mini.specs.Read.{read_mini}
-use Rattle.mini.specs.declared.Chunk.{Chunk}
 use Rattle.mini.specs.declared.MinimizedImage.{MinimizedImage}
+use Rattle.mini.specs.declared.Span.{Span}
 use Rattle.outline.specs.Chunks.{given_order, stored_order, chunk_of, ignored}
 use Rattle.outline.specs.Ends.{◌next◌, header_parts, part_ends}
 
@@ -17,7 +17,7 @@ unfoldable pub place_bytes : List ℕ → List ℕ
 place_bytes places = joined (map (be 8) places)
 
 -- a chunk's number, and where it lies
-unfoldable pub entry : ℕ → Chunk → List ℕ
+unfoldable pub entry : ℕ → Option Span → List ℕ
 entry n c = (n ∷ []) ++ chunk_bytes c
 
 unfoldable pub entries : MinimizedImage → List ℕ → List ℕ

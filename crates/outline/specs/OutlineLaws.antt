@@ -1,6 +1,6 @@
 -- What an outline tells of a payload that is accepted: the parts of the header follow one another and end where the main configuration begins, the chunks
 -- have the sizes given and lie one after another in the stored order, and the bytes counted as ignored are not needed. Assumes nothing.
-use Rattle.std.specs.Prelude.{◌≡◌, ℕ, ◌+◌, ◌-◌, ◌*◌, ◌/◌, ◌%◌, ◌≤◌, Bool, true, false, List, [], ◌∷◌, ◌++◌, map, length, take, drop, ◌==◌, nat_lt, slice_index, refl}
+use Rattle.std.specs.Prelude.{◌≡◌, ℕ, ◌+◌, ◌-◌, ◌*◌, ◌/◌, ◌%◌, ◌≤◌, Bool, true, false, List, [], ◌∷◌, ◌++◌, map, length, take, drop, ◌==◌, nat_lt, slice_index, refl, Option, Some, None}
 use Rattle.std.proofs.Common.{sym, ap, ◌∙◌, subst, arith, take-append-drop, length-take-le, eqb-true}
 use Rattle.std.proofs.lemmas.List.{take-append-le}
 use Rattle.std.proofs.lemmas.Bool.{eqb-false}
@@ -12,17 +12,15 @@ use Rattle.mini.specs.Cut.{sum, within_of, of_within}
 use Rattle.mini.specs.HeaderLength.{header_end}
 use Rattle.mini.specs.Image.{image_of}
 use Rattle.mini.specs.Payload.{header_bits, chunks_start, header-bytes, Reads, accepted, found, reads_inv, reads_back, reads_image}
-use Rattle.mini.specs.Read.{bits_to_boundary, past_trailing_bits, test_chunks, reading_if, read_chunks, read_mini}
+use Rattle.mini.specs.Read.{bits_to_boundary, past_trailing_bits, test_chunks, reading_if, read_chunks, read_mini, Reading}
 use Rattle.mini.specs.RecordHeader.{parts, choices_of, header_again}
 use Rattle.mini.specs.Same.{chunk_len}
 use Rattle.mini.specs.Syntax.{chunk_sizes, header, trailing_bits}
 use Rattle.mini.specs.Write.{header_with}
-use Rattle.mini.specs.declared.Chunk.{Chunk}
-use Rattle.mini.specs.declared.Chunk.TheVariants.{Absent, Present}
 use Rattle.mini.specs.declared.ChunkSizes.{ChunkSizes}
 use Rattle.mini.specs.declared.Header.{Header}
 use Rattle.mini.specs.declared.MinimizedImage.{MinimizedImage}
-use Rattle.mini.specs.declared.Reading.{Reading}
+use Rattle.mini.specs.declared.Span.{Span}
 use Rattle.outline.specs.Chunks.{given_order, stored_order, span_chunk, given_chunks, chunk_of, chunks_end, ignored}
 use Rattle.outline.specs.Ends.{Parts, ◌next◌, done, header_parts, part_ends, whole_header}
 
@@ -157,21 +155,21 @@ given_chunks_lem i z e =
     simp (e.icc, e.tmap_icc, e.gain_map_metadata, e.gain_map_data, e.gain_map_config, e.main_config, e.main_data, e.alpha_data, e.alpha_config, e.exif, e.xmp)
 
 -- absent ones passed over, each begins where the one before ends
-unfoldable pub Adjoin : ℕ → List Chunk → Type 0
+unfoldable pub Adjoin : ℕ → List (Option Span) → Type 0
 Adjoin at [] = Unit {0}
-Adjoin at (Absent ∷ l) = Adjoin at l
-Adjoin at (Present p n ∷ l) = (p ≡ at) × Adjoin (at + n) l
+Adjoin at (None ∷ l) = Adjoin at l
+Adjoin at (Some x ∷ l) = (x.at ≡ at) × Adjoin (at + x.len) l
 
 adjoin_none : (at : ℕ) → Adjoin at []
 unfolding Adjoin
 adjoin_none at = tt
 
-adjoin_next : (t : Bool) (at n : ℕ) (l : List Chunk) → chunk_len (chunk_if t at n) ≡ n → Adjoin (at + n) l → Adjoin at (chunk_if t at n ∷ l)
+adjoin_next : (t : Bool) (at n : ℕ) (l : List (Option Span)) → chunk_len (chunk_if t at n) ≡ n → Adjoin (at + n) l → Adjoin at (chunk_if t at n ∷ l)
 unfolding Adjoin
 adjoin_next true at n l e a = (refl, a)
 adjoin_next false at n l e a = subst (λ (k : ℕ). Adjoin k l) (omega (arith, e)) a
 
-adjoin_span : (t : Bool) (at n : ℕ) (l : List Chunk) → chunk_len (span_chunk t (span_if t at n)) ≡ n → Adjoin (at + n) l
+adjoin_span : (t : Bool) (at n : ℕ) (l : List (Option Span)) → chunk_len (span_chunk t (span_if t at n)) ≡ n → Adjoin (at + n) l
     → Adjoin at (span_chunk t (span_if t at n) ∷ l)
 unfolding Adjoin
 adjoin_span true at n l e a = (refl, a)

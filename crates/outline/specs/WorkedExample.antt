@@ -2,14 +2,13 @@
 --   header: 16 bits of flags; dimensions 1 + 7 + 7; no chroma centring; sample format 1; no alpha, cicp or codec types; gain map 31
 --   (present, same size, width 7, height 7, matrix 8, full range, subsampling 2, float, high depth, ICC, cicp); six HDR flags; six more;
 --   chunk sizes 3 + 10 + 15 + 3 + 3 + 15; four trailing bits
-use Rattle.std.specs.Prelude.{◌≡◌, ℕ, List, [], ◌∷◌, map, refl}
+use Rattle.std.specs.Prelude.{◌≡◌, ℕ, List, [], ◌∷◌, map, refl, Some, None}
 use Rattle.bits.specs.State.{ahead, part, bytes_of, bytes_at, read_bits, read_bytes}
 use Rattle.bits.specs.Format.{◌>>=◌, view}
 use Rattle.mini.specs.Chunks.{stored_sizes, stored_places, end_within}
 use Rattle.mini.specs.Image.{image_of}
 use Rattle.mini.specs.Read.{bits_to_boundary, past_trailing_bits, test_chunks, read_chunks, read_mini}
 use Rattle.mini.specs.Syntax.{flags, dimensions, chroma, float_format, integer_format, sample_format, explicit_cicp, explicit_codec_types, main_format, tmap_cicp, gain_map_dimension, gain_map_format, gain_map_header, cclv, cclv_for, hdr_boxes, chunk_sizes, header, trailing_bits}
-use Rattle.mini.specs.declared.Chunk.TheVariants.{Absent, Present}
 use Rattle.outline.specs.Chunks.{stored_order, given_chunks, chunk_of, chunks_end, ignored}
 use Rattle.outline.specs.Ends.{◌next◌, header_parts, part_ends}
 
@@ -23,7 +22,7 @@ unfolding part_ends header_parts ◌next◌ ahead part bytes_of bytes_at read_bi
 example_ends = refl
 
 pub example_chunks : map (chunk_of (read_mini payload).image) stored_order
-    ≡ Present 16 0 ∷ Absent ∷ Present 16 1 ∷ Absent ∷ Absent ∷ Present 17 3 ∷ Absent ∷ Present 20 5 ∷ Present 25 1 ∷ Absent ∷ Absent ∷ []
+    ≡ Some (record { at = 16; len = 0 }) ∷ None ∷ Some (record { at = 16; len = 1 }) ∷ None ∷ None ∷ Some (record { at = 17; len = 3 }) ∷ None ∷ Some (record { at = 20; len = 5 }) ∷ Some (record { at = 25; len = 1 }) ∷ None ∷ None ∷ []
 unfolding stored_order given_chunks chunk_of ahead part bytes_of bytes_at read_bits read_bytes ◌>>=◌ view flags dimensions chroma float_format integer_format sample_format explicit_cicp explicit_codec_types main_format tmap_cicp gain_map_dimension gain_map_format gain_map_header cclv cclv_for hdr_boxes chunk_sizes header trailing_bits stored_sizes stored_places end_within image_of bits_to_boundary past_trailing_bits test_chunks read_chunks read_mini
 example_chunks = refl
 

@@ -9,17 +9,15 @@ pub mod chunks;
 pub mod ends;
 
 use mini::MinimizedImage;
-use octets::put_u64;
+use octets::put;
 
 // The outline of a payload whose record is `i`.
 pub fn put_outline(out: &mut [u8], at: usize, payload: &[u8], i: MinimizedImage) -> usize
     requires { at + 500 ≤ length out.old }
     ensures { Wrote out.old at 500 (outline_of payload.now i) out.new result }
 {
-    let e = ends::read_ends(payload);
-    let a = ends::put_ends(out, at, e);
-    let b = chunks::put_given(out, a, i);
-    let c = chunks::put_stored(out, b, i);
-    let ignored = chunks::ignored(payload.len(), i);
-    put_u64(out, c, ignored as u64)
+    let at = ends::put_ends(out, at, ends::read_ends(payload));
+    let at = chunks::put_given(out, at, i);
+    let at = chunks::put_stored(out, at, i);
+    put::<8>(out, at, chunks::ignored(payload.len(), i) as u64)
 }

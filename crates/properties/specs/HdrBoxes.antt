@@ -4,6 +4,8 @@ use Rattle.std.specs.Prelude.{List, ℕ, ◌+◌, take}
 use Rattle.boxes.specs.Boxed.{boxed}
 use Rattle.mini.specs.Cclv.{cclv_length}
 use Rattle.properties.specs.Property.{full_box}
+use Rattle.properties.specs.declared.hdr_boxes.HdrBox.{HdrBox}
+use Rattle.properties.specs.declared.hdr_boxes.HdrBox.TheVariants.{Clli, Mdcv, Cclv, Amve, Reve, Ndwt}
 
 unfoldable pub clli : List ℕ → List ℕ
 clli body = boxed 0x636C6C69 body
@@ -41,3 +43,20 @@ ndwt body = full_box 0x6E647774 body
 
 abbrev pub ndwt_len : ℕ
 ndwt_len = 16
+
+-- each by its kind
+abbrev pub hdr_box : HdrBox → List ℕ
+hdr_box (Clli body) = clli body
+hdr_box (Mdcv body) = mdcv body
+hdr_box (Cclv held) = cclv held
+hdr_box (Amve body) = amve body
+hdr_box (Reve body) = reve body
+hdr_box (Ndwt body) = ndwt body
+
+abbrev pub hdr_box_len : HdrBox → ℕ
+hdr_box_len (Clli body) = clli_len
+hdr_box_len (Mdcv body) = mdcv_len
+hdr_box_len (Cclv held) = cclv_len held
+hdr_box_len (Amve body) = amve_len
+hdr_box_len (Reve body) = reve_len
+hdr_box_len (Ndwt body) = ndwt_len

@@ -1,24 +1,22 @@
 -- Rotation and mirror by orientation (ISO/IEC 23008-12, O.4.6; document 01, 'The equivalent file': 'one table of eight rows').
-use Rattle.std.specs.Prelude.{List, [], ◌∷◌, ℕ, ◌-◌, get_or}
-use Rattle.properties.specs.declared.Turn.{Turn}
-use Rattle.properties.specs.declared.Turn.TheVariants.{Unturned, By}
+use Rattle.std.specs.Prelude.{List, [], ◌∷◌, ℕ, ◌-◌, get_or, Option, None, Some}
 use Rattle.properties.specs.declared.Turns.{Turns}
 
-abbrev pub turns : Turn → Turn → Turns
+abbrev pub turns : Option ℕ → Option ℕ → Turns
 turns angle axis = record { angle = angle; axis = axis }
 
 -- irot's angle and imir's axis for the orientations 1 to 8
 unfoldable pub turn_table : List Turns
 turn_table =
-    turns Unturned Unturned
-    ∷ turns Unturned (By 1)
-    ∷ turns (By 2) Unturned
-    ∷ turns Unturned (By 0)
-    ∷ turns (By 1) (By 0)
-    ∷ turns (By 3) Unturned
-    ∷ turns (By 1) (By 1)
-    ∷ turns (By 1) Unturned
+    turns None None
+    ∷ turns None (Some 1)
+    ∷ turns (Some 2) None
+    ∷ turns None (Some 0)
+    ∷ turns (Some 1) (Some 0)
+    ∷ turns (Some 3) None
+    ∷ turns (Some 1) (Some 1)
+    ∷ turns (Some 1) None
     ∷ []
 
 unfoldable pub turns_of : ℕ → Turns
-turns_of orientation = get_or turn_table (orientation - 1) (turns Unturned Unturned)
+turns_of orientation = get_or turn_table (orientation - 1) (turns None None)

@@ -1,16 +1,14 @@
 -- Laws of rotation and mirror by orientation.
-use Rattle.std.specs.Prelude.{◌≡◌, refl, Bool, false, ℕ, zero, suc, ◌%◌, eqb}
+use Rattle.std.specs.Prelude.{◌≡◌, refl, Bool, false, ℕ, zero, suc, ◌%◌, eqb, Option, None, Some}
 use Rattle.std.proofs.Math.Numerals.{unary_clauses}
 use Rattle.std.proofs.Common.{arith}
 use Rattle.mini.specs.ShownSize.{exchanges_size, kept_above}
 use Rattle.properties.specs.Orientation.{turn_table, turns_of}
-use Rattle.properties.specs.declared.Turn.{Turn}
-use Rattle.properties.specs.declared.Turn.TheVariants.{Unturned, By}
 
 -- a rotation by one quarter or three
-abbrev pub is_sideways : Turn → Bool
-is_sideways Unturned = false
-is_sideways (By quarters) = eqb (quarters % 2) 1
+abbrev pub is_sideways : Option ℕ → Bool
+is_sideways None = false
+is_sideways (Some quarters) = eqb (quarters % 2) 1
 
 -- width and height change places exactly where 'irot' turns by one quarter or three: the size as shown is the one that a file's properties
 -- give; for every number

@@ -65,11 +65,14 @@ abbrev pub aux_c_len : ℕ
 aux_c_len = 56
 
 -- ---- 'irot', 6.5.10: quarter turns anticlockwise; 'imir', 6.5.12: 0 top to bottom, 1 left to right
+abbrev pub turn_box : ℕ → ℕ → List ℕ
+turn_box type turn = boxed type (turn ∷ [])
+
 unfoldable pub irot : ℕ → List ℕ
-irot angle = boxed 0x69726F74 (angle ∷ [])
+irot angle = turn_box 0x69726F74 angle
 
 unfoldable pub imir : ℕ → List ℕ
-imir axis = boxed 0x696D6972 (axis ∷ [])
+imir axis = turn_box 0x696D6972 axis
 
 abbrev pub turn_len : ℕ
 turn_len = 9

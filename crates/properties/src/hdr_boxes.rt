@@ -1,7 +1,7 @@
 // The boxes for high dynamic range, from the bodies that the record holds.
 ghost use Rattle.std.specs.Prelude.{◌≡◌, ◌+◌, ◌≤◌, length};
 ghost use Rattle.octets.specs.Overwrite.{Wrote};
-ghost use Rattle.properties.specs.HdrBoxes.{clli, clli_len, mdcv, mdcv_len, cclv, cclv_len, amve, amve_len, reve, reve_len, ndwt, ndwt_len};
+ghost use Rattle.properties.specs.HdrBoxes.{cclv, cclv_len};
 
 use crate::property::{put_box, put_full_box};
 use boxes::FourCc;
@@ -19,52 +19,55 @@ const REVE: FourCc = 0x72657665;
 
 const NDWT: FourCc = 0x6E647774;
 
-pub fn put_clli(out: &mut [u8], at: usize, body: [u8; 4]) -> usize
-    requires { at + clli_len ≤ length out.old }
-    ensures { Wrote out.old at clli_len (clli body) out.new result }
-{
-    put_box(out, at, CLLI, &body)
+// A box with its body. A cclv's first byte says how many of the bytes are its own.
+#[derive(Clone, Copy)]
+pub enum HdrBox {
+    Clli([u8; 4]),
+    Mdcv([u8; 24]),
+    Cclv([u8; 37]),
+    Amve([u8; 8]),
+    Reve([u8; 20]),
+    Ndwt([u8; 4]),
 }
 
-pub fn put_mdcv(out: &mut [u8], at: usize, body: [u8; 24]) -> usize
-    requires { at + mdcv_len ≤ length out.old }
-    ensures { Wrote out.old at mdcv_len (mdcv body) out.new result }
-{
-    put_box(out, at, MDCV, &body)
-}
-
-fn put_cclv_of(out: &mut [u8], at: usize, held: &[u8]) -> usize
+fn put_cclv(out: &mut [u8], at: usize, held: &[u8]) -> usize
     requires { (length held.now ≡ 37) × (at + cclv_len held.now ≤ length out.old) }
     ensures { Wrote out.old at (cclv_len held.now) (cclv held.now) out.new result }
 {
     let len = cclv_more(held[0]) + 1;
-    put_box(out, at, CCLV, &held[0..len])
+    put_box(out, at, CCLV, &held[..len])
 }
 
-pub fn put_cclv(out: &mut [u8], at: usize, held: [u8; 37]) -> usize
-    requires { at + cclv_len held ≤ length out.old }
-    ensures { Wrote out.old at (cclv_len held) (cclv held) out.new result }
-{
-    put_cclv_of(out, at, &held)
-}
+impl HdrBox {
+    ghost use Rattle.properties.specs.HdrBoxes.{hdr_box, hdr_box_len};
 
-pub fn put_amve(out: &mut [u8], at: usize, body: [u8; 8]) -> usize
-    requires { at + amve_len ≤ length out.old }
-    ensures { Wrote out.old at amve_len (amve body) out.new result }
-{
-    put_box(out, at, AMVE, &body)
-}
+    // How many bytes `put` writes.
+    pub fn len(self) -> usize
+        ensures { (result ≡ hdr_box_len self) × (result ≤ 45) }
+    {
+        match self {
+            HdrBox::Clli(_) => 12,
+            HdrBox::Mdcv(_) => 32,
+            HdrBox::Cclv(held) => 9 + cclv_more(held[0]),
+            HdrBox::Amve(_) => 16,
+            HdrBox::Reve(_) => 32,
+            HdrBox::Ndwt(_) => 16,
+        }
+    }
 
-pub fn put_reve(out: &mut [u8], at: usize, body: [u8; 20]) -> usize
-    requires { at + reve_len ≤ length out.old }
-    ensures { Wrote out.old at reve_len (reve body) out.new result }
-{
-    put_full_box(out, at, REVE, &body)
-}
-
-pub fn put_ndwt(out: &mut [u8], at: usize, body: [u8; 4]) -> usize
-    requires { at + ndwt_len ≤ length out.old }
-    ensures { Wrote out.old at ndwt_len (ndwt body) out.new result }
-{
-    put_full_box(out, at, NDWT, &body)
+    // 'reve' and 'ndwt' are full boxes.
+    #[tactic(auto, unfolding(crate::specs::HdrBoxes::clli, crate::specs::HdrBoxes::mdcv, crate::specs::HdrBoxes::amve, crate::specs::HdrBoxes::reve, crate::specs::HdrBoxes::ndwt))]
+    pub fn put(self, out: &mut [u8], at: usize) -> usize
+        requires { at + hdr_box_len self ≤ length out.old }
+        ensures { Wrote out.old at (hdr_box_len self) (hdr_box self) out.new result }
+    {
+        match self {
+            HdrBox::Clli(body) => put_box(out, at, CLLI, &body),
+            HdrBox::Mdcv(body) => put_box(out, at, MDCV, &body),
+            HdrBox::Cclv(held) => put_cclv(out, at, &held),
+            HdrBox::Amve(body) => put_box(out, at, AMVE, &body),
+            HdrBox::Reve(body) => put_full_box(out, at, REVE, &body),
+            HdrBox::Ndwt(body) => put_full_box(out, at, NDWT, &body),
+        }
+    }
 }

@@ -7,15 +7,9 @@ pub mod orientation;
 pub mod pixi;
 pub mod property;
 
-// irot's angle or imir's axis, if there is one.
-#[derive(Clone, Copy)]
-pub enum Turn {
-    Unturned,
-    By(u8),
-}
-
-#[derive(Clone, Copy)]
+// irot's angle and imir's axis, where there is one.
+#[derive(Clone, Copy, Debug, PartialEq, Eq)]
 pub struct Turns {
-    pub angle: Turn,
-    pub axis: Turn,
+    pub angle: Option<u8>,
+    pub axis: Option<u8>,
 }

@@ -2,41 +2,41 @@
 ghost use Rattle.std.specs.Prelude.{◌≡◌, ◌≤◌};
 ghost use Rattle.properties.specs.Orientation.{turns_of};
 
-use crate::{Turn, Turns};
+use crate::Turns;
 
 // For the orientations 1 to 8.
 const TURNS: [Turns; 8] = [
     Turns {
-        angle: Turn::Unturned,
-        axis: Turn::Unturned,
+        angle: None,
+        axis: None,
     },
     Turns {
-        angle: Turn::Unturned,
-        axis: Turn::By(1),
+        angle: None,
+        axis: Some(1),
     },
     Turns {
-        angle: Turn::By(2),
-        axis: Turn::Unturned,
+        angle: Some(2),
+        axis: None,
     },
     Turns {
-        angle: Turn::Unturned,
-        axis: Turn::By(0),
+        angle: None,
+        axis: Some(0),
     },
     Turns {
-        angle: Turn::By(1),
-        axis: Turn::By(0),
+        angle: Some(1),
+        axis: Some(0),
     },
     Turns {
-        angle: Turn::By(3),
-        axis: Turn::Unturned,
+        angle: Some(3),
+        axis: None,
     },
     Turns {
-        angle: Turn::By(1),
-        axis: Turn::By(1),
+        angle: Some(1),
+        axis: Some(1),
     },
     Turns {
-        angle: Turn::By(1),
-        axis: Turn::Unturned,
+        angle: Some(1),
+        axis: None,
     },
 ];
 
@@ -45,6 +45,5 @@ pub fn turns_of(orientation: u8) -> Turns
     requires { (1 ≤ orientation) × (orientation ≤ 8) }
     ensures { result ≡ turns_of orientation }
 {
-    let row = (orientation - 1) as usize;
-    TURNS[row]
+    TURNS[(orientation - 1) as usize]
 }

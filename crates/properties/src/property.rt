@@ -1,11 +1,12 @@
 // Size, colour, codec configuration, alpha, rotation and mirror.
-ghost use Rattle.std.specs.Prelude.{◌≡◌, [], ◌∷◌, ◌++◌, ◌+◌, ◌≤◌, ◌<◌, length};
+ghost use Rattle.std.specs.Prelude.{◌≡◌, ◌++◌, ◌+◌, ◌≤◌, ◌<◌, length};
 ghost use Rattle.octets.specs.Overwrite.{Wrote};
 ghost use Rattle.boxes.specs.Boxed.{boxed, full_box_header};
-ghost use Rattle.properties.specs.Property.{full_box, full_box_len, ispe_body, ispe, ispe_len, full_range_byte, nclx_body, nclx, nclx_len, prof_body, prof, prof_len, codec_config, codec_config_len, aux_c, aux_c_len, irot, imir, turn_len};
+ghost use Rattle.properties.specs.Property.{full_box, full_box_len, ispe_body, ispe, ispe_len, full_range_byte, nclx_body, nclx, nclx_len, prof_body, prof, prof_len, codec_config, codec_config_len, aux_c, aux_c_len, turn_box, turn_len};
 
 use boxes::{FourCc, put_box_header, put_full_box_header};
-use octets::{copy_in, put_u8, put_u16, put_u32};
+use mini::Cicp;
+use octets::{copy_in, put, put_u8};
 
 const ISPE: FourCc = 0x69737065;
 
@@ -17,54 +18,56 @@ const PROF: FourCc = 0x70726F66;
 
 const AUXC: FourCc = 0x61757843;
 
-const IROT: FourCc = 0x69726F74;
+pub const IROT: FourCc = 0x69726F74;
 
-const IMIR: FourCc = 0x696D6972;
+pub const IMIR: FourCc = 0x696D6972;
 
 // A box with a given body.
+#[tactic(auto, using(boxes::specs::Boxed::boxes))]
 pub fn put_box(out: &mut [u8], at: usize, box_type: FourCc, body: &[u8]) -> usize
     requires { (at + (8 + length body.now) ≤ length out.old) × (8 + length body.now < 4294967296) }
     ensures { Wrote out.old at (8 + length body.now) (boxed box_type body.now) out.new result }
 {
-    let start = at + 8;
-    let len = copy_in(&mut out[start..], 0, body);
+    let len = copy_in(&mut out[at + 8..], 0, body);
     put_box_header(out, at, len, box_type)
 }
 
+#[tactic(auto, using(octets::specs::OverwriteLaws::writes))]
 fn full_body(out: &mut [u8], body: &[u8]) -> usize
     requires { 4 + length body.now ≤ length out.old }
     ensures { Wrote out.old 0 (4 + length body.now) (full_box_header 0 0 ++ body.now) out.new result }
 {
-    let a = put_full_box_header(out, 0, 0, 0);
-    copy_in(out, a, body)
+    let at = put_full_box_header(out, 0, 0, 0);
+    copy_in(out, at, body)
 }
 
 // A full box of version 0 and flags 0 with a given body.
+#[tactic(auto, using(boxes::specs::Boxed::boxes), unfolding(crate::specs::Property::full_box))]
 pub fn put_full_box(out: &mut [u8], at: usize, box_type: FourCc, body: &[u8]) -> usize
     requires { (at + full_box_len (length body.now) ≤ length out.old) × (full_box_len (length body.now) < 4294967296) }
     ensures { Wrote out.old at (full_box_len (length body.now)) (full_box box_type body.now) out.new result }
 {
-    let start = at + 8;
-    let len = full_body(&mut out[start..], body);
+    let len = full_body(&mut out[at + 8..], body);
     put_box_header(out, at, len, box_type)
 }
 
+#[tactic(auto, using(octets::specs::OverwriteLaws::writes), unfolding(crate::specs::Property::ispe_body))]
 fn ispe_body(out: &mut [u8], width: u32, height: u32) -> usize
     requires { 12 ≤ length out.old }
     ensures { Wrote out.old 0 12 (ispe_body width height) out.new result }
 {
-    let a = put_full_box_header(out, 0, 0, 0);
-    let b = put_u32(out, a, width);
-    put_u32(out, b, height)
+    let at = put_full_box_header(out, 0, 0, 0);
+    let at = put::<4>(out, at, width as u64);
+    put::<4>(out, at, height as u64)
 }
 
 // The picture's size.
+#[tactic(auto, using(boxes::specs::Boxed::boxes), unfolding(crate::specs::Property::ispe))]
 pub fn put_ispe(out: &mut [u8], at: usize, width: u32, height: u32) -> usize
     requires { at + ispe_len ≤ length out.old }
     ensures { Wrote out.old at ispe_len (ispe width height) out.new result }
 {
-    let start = at + 8;
-    let len = ispe_body(&mut out[start..], width, height);
+    let len = ispe_body(&mut out[at + 8..], width, height);
     put_box_header(out, at, len, ISPE)
 }
 
@@ -74,54 +77,49 @@ fn full_range_byte(full: bool) -> u8
     if full { 0x80 } else { 0 }
 }
 
-fn nclx_body(out: &mut [u8], primaries: u8, transfer: u8, matrix: u8, full: bool) -> usize
+#[tactic(auto, using(octets::specs::OverwriteLaws::writes), unfolding(crate::specs::Property::nclx_body))]
+fn nclx_body(out: &mut [u8], cicp: Cicp, full: bool) -> usize
     requires { 11 ≤ length out.old }
-    ensures { Wrote out.old 0 11 (nclx_body primaries transfer matrix full) out.new result }
+    ensures { Wrote out.old 0 11 (nclx_body cicp.primaries cicp.transfer cicp.matrix full) out.new result }
 {
-    let range = full_range_byte(full);
-    let a = put_u32(out, 0, NCLX);
-    let b = put_u16(out, a, primaries as u16);
-    let c = put_u16(out, b, transfer as u16);
-    let d = put_u16(out, c, matrix as u16);
-    put_u8(out, d, range)
+    let at = put::<4>(out, 0, NCLX as u64);
+    let at = put::<2>(out, at, cicp.primaries as u64);
+    let at = put::<2>(out, at, cicp.transfer as u64);
+    let at = put::<2>(out, at, cicp.matrix as u64);
+    put_u8(out, at, full_range_byte(full))
 }
 
 // Colour by code points.
-pub fn put_nclx(
-    out: &mut [u8],
-    at: usize,
-    primaries: u8,
-    transfer: u8,
-    matrix: u8,
-    full: bool,
-) -> usize
+#[tactic(auto, using(boxes::specs::Boxed::boxes), unfolding(crate::specs::Property::nclx))]
+pub fn put_nclx(out: &mut [u8], at: usize, cicp: Cicp, full: bool) -> usize
     requires { at + nclx_len ≤ length out.old }
-    ensures { Wrote out.old at nclx_len (nclx primaries transfer matrix full) out.new result }
+    ensures { Wrote out.old at nclx_len (nclx cicp.primaries cicp.transfer cicp.matrix full) out.new result }
 {
-    let start = at + 8;
-    let len = nclx_body(&mut out[start..], primaries, transfer, matrix, full);
+    let len = nclx_body(&mut out[at + 8..], cicp, full);
     put_box_header(out, at, len, COLR)
 }
 
+#[tactic(auto, using(octets::specs::OverwriteLaws::writes), unfolding(crate::specs::Property::prof_body))]
 fn prof_body(out: &mut [u8], icc: &[u8]) -> usize
     requires { 4 + length icc.now ≤ length out.old }
     ensures { Wrote out.old 0 (4 + length icc.now) (prof_body icc.now) out.new result }
 {
-    let a = put_u32(out, 0, PROF);
-    copy_in(out, a, icc)
+    let at = put::<4>(out, 0, PROF as u64);
+    copy_in(out, at, icc)
 }
 
 // Colour by an ICC profile.
+#[tactic(auto, using(boxes::specs::Boxed::boxes), unfolding(crate::specs::Property::prof))]
 pub fn put_prof(out: &mut [u8], at: usize, icc: &[u8]) -> usize
     requires { (at + prof_len (length icc.now) ≤ length out.old) × (prof_len (length icc.now) < 4294967296) }
     ensures { Wrote out.old at (prof_len (length icc.now)) (prof icc.now) out.new result }
 {
-    let start = at + 8;
-    let len = prof_body(&mut out[start..], icc);
+    let len = prof_body(&mut out[at + 8..], icc);
     put_box_header(out, at, len, COLR)
 }
 
 // A codec configuration, in a box of its type.
+#[tactic(auto, unfolding(crate::specs::Property::codec_config))]
 pub fn put_codec_config(out: &mut [u8], at: usize, box_type: FourCc, config: &[u8]) -> usize
     requires { (at + codec_config_len (length config.now) ≤ length out.old) × (codec_config_len (length config.now) < 4294967296) }
     ensures { Wrote out.old at (codec_config_len (length config.now)) (codec_config box_type config.now) out.new result }
@@ -130,6 +128,7 @@ pub fn put_codec_config(out: &mut [u8], at: usize, box_type: FourCc, config: &[u
 }
 
 // That a picture is an alpha plane: AUX_URN_ALPHA of props.rs, ended by a zero byte.
+#[tactic(auto, unfolding(crate::specs::Property::aux_c, crate::specs::Property::AUX_URN_ALPHA))]
 pub fn put_auxc(out: &mut [u8], at: usize) -> usize
     requires { at + aux_c_len ≤ length out.old }
     ensures { Wrote out.old at aux_c_len aux_c out.new result }
@@ -142,26 +141,12 @@ pub fn put_auxc(out: &mut [u8], at: usize) -> usize
     )
 }
 
-// A box whose body is one byte.
-fn put_byte_box(out: &mut [u8], at: usize, box_type: FourCc, byte: u8) -> usize
+// 'irot' with its angle, or 'imir' with its axis.
+#[tactic(auto, using(boxes::specs::Boxed::boxes))]
+pub fn put_turn(out: &mut [u8], at: usize, box_type: FourCc, turn: u8) -> usize
     requires { at + turn_len ≤ length out.old }
-    ensures { Wrote out.old at turn_len (boxed box_type (byte ∷ [])) out.new result }
+    ensures { Wrote out.old at turn_len (turn_box box_type turn) out.new result }
 {
-    let start = at + 8;
-    let len = put_u8(&mut out[start..], 0, byte);
+    let len = put_u8(&mut out[at + 8..], 0, turn);
     put_box_header(out, at, len, box_type)
-}
-
-pub fn put_irot(out: &mut [u8], at: usize, angle: u8) -> usize
-    requires { at + turn_len ≤ length out.old }
-    ensures { Wrote out.old at turn_len (irot angle) out.new result }
-{
-    put_byte_box(out, at, IROT, angle)
-}
-
-pub fn put_imir(out: &mut [u8], at: usize, axis: u8) -> usize
-    requires { at + turn_len ≤ length out.old }
-    ensures { Wrote out.old at turn_len (imir axis) out.new result }
-{
-    put_byte_box(out, at, IMIR, axis)
 }

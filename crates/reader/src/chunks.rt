@@ -9,7 +9,7 @@ use octets::part;
 pub fn chunk(payload: &[u8], c: Chunk) -> &[u8]
     ensures { ChunkPart payload.entry c result }
 {
-    let Chunk::Present { at, len } = c else {
+    let Some(Span { at, len }) = c else {
         return part(payload, 0, 0);
     };
     part(payload, at, len)
@@ -19,7 +19,5 @@ pub fn chunk(payload: &[u8], c: Chunk) -> &[u8]
 pub fn span(payload: &[u8], s: Span) -> &[u8]
     ensures { Part payload.entry s.at s.len result }
 {
-    let at = s.at;
-    let len = s.len;
-    part(payload, at, len)
+    part(payload, s.at, s.len)
 }

@@ -2,25 +2,21 @@
 #![tactic(auto)]
 
 ghost use Rattle.std.specs.Prelude.{◌≡◌};
-ghost use Rattle.mini.specs.Read.{read_mini};
+ghost use Rattle.mini.specs.Read.{reading_of, read_mini};
 
-pub mod blank;
 pub mod chunks;
 pub mod image;
 
-use bits::Bits;
+use bits::{Bits, ReadError};
 use header_reader::read_header;
 use header_reader::sizes::read_trailing_bits;
-use mini::Reading;
+use image::read_chunks;
+use mini::MinimizedImage;
 
-// The record of a payload, or the number of its refusal.
-pub fn parse(payload: &[u8]) -> Reading
-    ensures { result ≡ read_mini payload.now }
+// The record of a payload, or why it is refused.
+pub fn parse(payload: &[u8]) -> Result<MinimizedImage, ReadError>
+    ensures { reading_of result ≡ read_mini payload.now }
 {
-    let b = Bits::new();
-    let h = read_header(b, payload);
-    let header = h.value;
-    let b1 = h.next;
-    let b2 = read_trailing_bits(b1, payload);
-    image::read_chunks(b2, payload, header)
+    let (header, b) = read_header(Bits::new(), payload);
+    read_chunks(read_trailing_bits(b, payload), payload, header)
 }

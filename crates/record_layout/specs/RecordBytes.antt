@@ -1,30 +1,26 @@
 -- A record as 441 bytes (docs/ABI.md), field by field in the order of the record; numbers big-endian. What may be absent has a
 -- byte before it, 1 if it is present, else 0, and zeros in its place.
-use Rattle.std.specs.Prelude.{Bool, cond, List, [], ◌∷◌, ◌++◌, ℕ, replicate}
+use Rattle.std.specs.Prelude.{Bool, cond, List, [], ◌∷◌, ◌++◌, ℕ, replicate, Option, Some, None}
 use Rattle.octets.specs.BigEndian.{be}
 use Rattle.layout.specs.PartBytes.{flag_bytes, chunk_bytes, span_bytes}
-use Rattle.mini.specs.declared.ExplicitCicp.{ExplicitCicp}
-use Rattle.mini.specs.declared.ExplicitCicp.TheVariants as cicp-is
-use Rattle.mini.specs.declared.ExplicitCodecTypes.{ExplicitCodecTypes}
-use Rattle.mini.specs.declared.ExplicitCodecTypes.TheVariants as types_are
+use Rattle.mini.specs.Views.{is_float, bits_in}
+use Rattle.mini.specs.declared.Cicp.{Cicp}
+use Rattle.mini.specs.declared.CodecTypes.{CodecTypes}
 use Rattle.mini.specs.declared.MiniChroma.{MiniChroma}
 use Rattle.mini.specs.declared.MiniGainMap.{MiniGainMap}
 use Rattle.mini.specs.declared.MiniHdrBoxes.{MiniHdrBoxes}
 use Rattle.mini.specs.declared.MinimizedImage.{MinimizedImage}
 use Rattle.mini.specs.declared.SampleFormat.{SampleFormat}
-use Rattle.mini.specs.declared.SampleFormat.TheVariants.{Integer, Float}
 use Rattle.mini.specs.declared.TmapCicp.{TmapCicp}
-use Rattle.mini.specs.declared.TmapCicp.TheVariants as tmap-is
 
 -- item type and configuration type
-abbrev pub codec_types_bytes : ExplicitCodecTypes → List ℕ
-codec_types_bytes types_are.Absent = replicate 9 0
-codec_types_bytes (types_are.Present infe config) = (1 ∷ []) ++ be 4 infe ++ be 4 config
+abbrev pub codec_types_bytes : Option CodecTypes → List ℕ
+codec_types_bytes None = replicate 9 0
+codec_types_bytes (Some t) = (1 ∷ []) ++ be 4 t.infe_type ++ be 4 t.codec_config_type
 
 -- 0 integer, 1 float; bits
-abbrev pub format_bytes : SampleFormat → List ℕ
-format_bytes (Integer bits) = (0 ∷ []) ++ (bits ∷ [])
-format_bytes (Float bits) = (1 ∷ []) ++ (bits ∷ [])
+unfoldable pub format_bytes : SampleFormat → List ℕ
+format_bytes f = flag_bytes (is_float f) ++ (bits_in f ∷ [])
 
 unfoldable pub chroma_bytes : MiniChroma → List ℕ
 chroma_bytes c = (c.subsampling ∷ []) ++ flag_bytes c.horizontally_centered ++ flag_bytes c.vertically_centered
@@ -33,14 +29,14 @@ chroma_bytes c = (c.subsampling ∷ []) ++ flag_bytes c.horizontally_centered ++
 unfoldable pub colour_bytes : ℕ → ℕ → ℕ → List ℕ
 colour_bytes primaries transfer matrix = (1 ∷ []) ++ (primaries ∷ []) ++ (transfer ∷ []) ++ (matrix ∷ [])
 
-abbrev pub cicp_bytes : ExplicitCicp → List ℕ
-cicp_bytes cicp-is.Absent = replicate 4 0
-cicp_bytes (cicp-is.Present primaries transfer matrix) = colour_bytes primaries transfer matrix
+abbrev pub cicp_bytes : Option Cicp → List ℕ
+cicp_bytes None = replicate 4 0
+cicp_bytes (Some c) = colour_bytes c.primaries c.transfer c.matrix
 
 -- and full range
-abbrev pub tmap_cicp_bytes : TmapCicp → List ℕ
-tmap_cicp_bytes tmap-is.Absent = replicate 5 0
-tmap_cicp_bytes (tmap-is.Present primaries transfer matrix full) = colour_bytes primaries transfer matrix ++ flag_bytes full
+abbrev pub tmap_cicp_bytes : Option TmapCicp → List ℕ
+tmap_cicp_bytes None = replicate 5 0
+tmap_cicp_bytes (Some c) = colour_bytes c.primaries c.transfer c.matrix ++ flag_bytes c.full_range
 
 unfoldable pub hdr_flag_bytes : MiniHdrBoxes → List ℕ
 hdr_flag_bytes h =

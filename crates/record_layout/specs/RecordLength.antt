@@ -1,43 +1,39 @@
 -- The layout of a record is as long as docs/ABI.md says.
-use Rattle.std.specs.Prelude.{◌≡◌, refl, Bool, true, false, length}
+use Rattle.std.specs.Prelude.{◌≡◌, refl, Bool, true, false, length, Option, Some, None}
 use Rattle.std.proofs.Common.{length-append}
 use Rattle.octets.specs.BigEndianLaws.{length-be}
-use Rattle.mini.specs.declared.ExplicitCicp.{ExplicitCicp}
-use Rattle.mini.specs.declared.ExplicitCicp.TheVariants as cicp-is
-use Rattle.mini.specs.declared.ExplicitCodecTypes.{ExplicitCodecTypes}
-use Rattle.mini.specs.declared.ExplicitCodecTypes.TheVariants as types_are
+use Rattle.mini.specs.declared.Cicp.{Cicp}
+use Rattle.mini.specs.declared.CodecTypes.{CodecTypes}
 use Rattle.mini.specs.declared.MiniChroma.{MiniChroma}
 use Rattle.mini.specs.declared.MiniGainMap.{MiniGainMap}
 use Rattle.mini.specs.declared.MiniHdrBoxes.{MiniHdrBoxes}
 use Rattle.mini.specs.declared.MinimizedImage.{MinimizedImage}
 use Rattle.mini.specs.declared.SampleFormat.{SampleFormat}
-use Rattle.mini.specs.declared.SampleFormat.TheVariants.{Integer, Float}
 use Rattle.mini.specs.declared.TmapCicp.{TmapCicp}
-use Rattle.mini.specs.declared.TmapCicp.TheVariants as tmap-is
 use Rattle.layout.specs.PartBytes.{length-flag, length_chunk, length_span}
 use Rattle.record_layout.specs.RecordBytes.{codec_types_bytes, format_bytes, chroma_bytes, colour_bytes, cicp_bytes, tmap_cicp_bytes, hdr_flag_bytes, hdr_body_bytes, hdr_boxes_bytes, hdr_boxes_bytes_if, gain_map_picture_bytes, gain_map_bytes, gain_map_bytes_if, picture_bytes, colour_and_alpha_bytes, item_bytes, record_bytes}
 
-length_types : (t : ExplicitCodecTypes) → length (codec_types_bytes t) ≡ 9
-length_types types_are.Absent = refl
-length_types (types_are.Present infe config) = simp (length-append, length-be)
+length_types : (t : Option CodecTypes) → length (codec_types_bytes t) ≡ 9
+length_types None = refl
+length_types (Some t) = simp (length-append, length-be)
 
 length_format : (f : SampleFormat) → length (format_bytes f) ≡ 2
-length_format (Integer bits) = refl
-length_format (Float bits) = refl
+unfolding format_bytes
+length_format f = simp (length-append, length-flag)
 
 length-chroma : (c : MiniChroma) → length (chroma_bytes c) ≡ 3
 unfolding chroma_bytes
 length-chroma c = simp (length-append, length-flag)
 
-length_cicp : (t : ExplicitCicp) → length (cicp_bytes t) ≡ 4
+length_cicp : (t : Option Cicp) → length (cicp_bytes t) ≡ 4
 unfolding colour_bytes
-length_cicp cicp-is.Absent = refl
-length_cicp (cicp-is.Present primaries transfer matrix) = refl
+length_cicp None = refl
+length_cicp (Some c) = refl
 
-length_tmap : (t : TmapCicp) → length (tmap_cicp_bytes t) ≡ 5
+length_tmap : (t : Option TmapCicp) → length (tmap_cicp_bytes t) ≡ 5
 unfolding colour_bytes
-length_tmap tmap-is.Absent = refl
-length_tmap (tmap-is.Present primaries transfer matrix full) = simp (length-append, length-flag)
+length_tmap None = refl
+length_tmap (Some c) = simp length-flag
 
 -- the bodies have the lengths that their type gives them
 pub length_hdr : (h : MiniHdrBoxes) → length h.clli ≡ 4 → length h.mdcv ≡ 24 → length h.cclv ≡ 37 → length h.amve ≡ 8

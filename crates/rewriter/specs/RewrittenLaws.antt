@@ -5,7 +5,7 @@ use Rattle.std.proofs.lemmas.Bool.{false≢true}
 use Rattle.octets.specs.Overwrite.{overwrite}
 use Rattle.octets.specs.OverwriteLaws as octets-laws
 use Rattle.boxes.specs.Boxed.{boxed, box_header, length-box_header}
-use Rattle.mini.specs.Read.{read_mini}
+use Rattle.mini.specs.Read.{read_mini, Reading}
 use Rattle.mini.specs.Refusals.{reading_at_most_nine}
 use Rattle.mini.proofs.RoundTrip.{read_writable, shortest}
 use Rattle.mini.proofs.RoundTrip as round_trip
@@ -15,8 +15,7 @@ use Rattle.mini.specs.declared.MinimizedImage.{MinimizedImage}
 use Rattle.writer.specs.Needed.{box_small}
 use Rattle.mini.specs.RecordHeader.{T_true}
 use Rattle.writer.specs.ToBox.{box_of, refused, written, answer, past_11}
-use Rattle.writer.specs.declared.Written.{Written}
-use Rattle.mini.specs.declared.Reading.{Reading}
+use Rattle.writer.specs.Outcome.{Written}
 use Rattle.rewriter.specs.Rewritten.{rewritten, WrittenBack}
 
 -- what is read is written: neither 10 nor 11

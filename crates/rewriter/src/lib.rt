@@ -1,27 +1,67 @@
 // Rewriting: a payload read, and its record written as a box in its shortest form.
 #![tactic(auto)]
 
-ghost use Rattle.std.specs.Prelude.{◌≡◌, ◌≤◌, ◌<◌, take, drop};
+ghost use Rattle.std.specs.Prelude.{◌≡◌, ◌≤◌, ◌<◌, take, drop, IfOk};
+ghost use Rattle.rewriter.specs.Outcome.{number, needed_in, outcome_of};
 ghost use Rattle.rewriter.specs.Rewritten.{rewritten, WrittenBack};
+ghost use Rattle.rewriter.specs.declared.RewriteError.TheVariants.{Reading, Writing};
 
+use bits::ReadError;
 use reader::parse;
-use writer::{Written, to_box};
+use writer::{WriteError, to_box};
 
-// The number of the reader's refusal; else the writer's answer.
-#[tactic(auto, using(crate::specs::RewrittenLaws::refused_as_read, crate::specs::RewrittenLaws::read_then_written, crate::specs::RewrittenLaws::refused_small))]
-pub fn rewrite(payload: &[u8], out: &mut [u8]) -> Written
-    ensures answer { (result, out.new) ≡ rewritten payload.now out.old }
-    ensures written_back { result.refusal ≡ 0 → WrittenBack payload.now (drop 8 (take result.len out.new)) }
-    ensures bounds { (result.refusal ≤ 16) × (result.len < 4294967296) }
-{
-    let reading = parse(payload);
-    let refusal = reading.refusal;
-    let image = reading.image;
-    if refusal != 0 {
-        return Written {
-            refusal: refusal as usize,
-            len: 0,
-        };
+// Why a payload is not rewritten: the reader's refusal, or the writer's.
+#[derive(Clone, Copy, Debug, PartialEq, Eq)]
+pub enum RewriteError {
+    Reading(ReadError),
+    Writing(WriteError),
+}
+
+impl From<ReadError> for RewriteError {
+    ghost from_gives = { λ e r. r ≡ Reading e };
+
+    fn from(error: ReadError) -> RewriteError {
+        RewriteError::Reading(error)
     }
-    to_box(image, payload, out)
+}
+
+impl From<WriteError> for RewriteError {
+    ghost from_gives = { λ e r. r ≡ Writing e };
+
+    fn from(error: WriteError) -> RewriteError {
+        RewriteError::Writing(error)
+    }
+}
+
+impl RewriteError {
+    // The number of the refusal.
+    pub fn number(self) -> u8
+        ensures { result ≡ number self }
+    {
+        match self {
+            RewriteError::Reading(error) => error.number(),
+            RewriteError::Writing(error) => error.number(),
+        }
+    }
+
+    // The length that comes with it: the one needed, else 0.
+    pub fn needed(self) -> usize
+        ensures { result ≡ needed_in self }
+    {
+        match self {
+            RewriteError::Reading(_) => 0,
+            RewriteError::Writing(error) => error.needed(),
+        }
+    }
+}
+
+// The record of a payload as a box; its length.
+pub fn rewrite(payload: &[u8], out: &mut [u8]) -> Result<usize, RewriteError>
+    ensures answer { (outcome_of result, out.new) ≡ rewritten payload.now out.old }
+    ensures written_back { IfOk result (λ len. WrittenBack payload.now (drop 8 (take len out.new))) }
+    ensures bounds { ((outcome_of result).refusal ≤ 16) × ((outcome_of result).len < 4294967296) }
+{
+    let image = parse(payload)?;
+    let len = to_box(image, payload, out)?;
+    Ok(len)
 }

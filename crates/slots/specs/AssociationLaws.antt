@@ -1,5 +1,7 @@
 -- The associations kept of the first ones in a row, one more at a time; and why the main picture's row does not ask for `hdr`.
 use Rattle.std.specs.Prelude.{◌≡◌, refl, Bool, true, false, cond, List, [], ◌∷◌, ◌++◌, ℕ, suc, ◌+◌, ◌≤◌, ◌<◌, T, length, take, drop, get_or}
+use Rattle.std.specs.List.{count_by}
+use Rattle.std.proofs.lemmas.List.Recursion.{is_count_by}
 use Rattle.std.proofs.Common.{sym, ap, ◌∙◌, append-nil, append_assoc, arith, length-append, take-append-drop, take-suc}
 use Rattle.mini.specs.NoPayloadGives.{lawful}
 use Rattle.mini.specs.Write.{writable}
@@ -36,6 +38,15 @@ kept_count used xs j h =
       length-append (kept used (take j xs)) (cond (is_kept used (get_or xs j 0)) (get_or xs j 0 ∷ []) []),
       length_if (is_kept used (get_or xs j 0)) (get_or xs j 0),
     )
+
+-- how many are kept
+kept_step : (t : Bool) (x : ℕ) (ys : List ℕ) → length (cond t (x ∷ []) [] ++ ys) ≡ cond t (1 + length ys) (length ys)
+kept_step true x ys = omega arith
+kept_step false x ys = refl
+
+pub length-kept : (used : List Bool) (xs : List ℕ) → length (kept used xs) ≡ count_by (is_kept used) xs
+unfolding kept
+length-kept used xs = is_count_by (λ ys. length (kept used ys)) (is_kept used) refl (λ y ys. kept_step (is_kept used y) y (kept used ys)) xs
 
 -- a further one has room where all have it
 pub kept_room : (used : List Bool) (xs : List ℕ) (j : ℕ) → j < length xs

@@ -1,21 +1,16 @@
 -- The most that each length can be, where the lengths of the chunks are within their fields.
-use Rattle.std.specs.Prelude.{Bool, true, false, not, cond, ◌||◌, List, [], ◌∷◌, ℕ, ◌+◌, ◌≤◌, eqb, length}
+use Rattle.std.specs.Prelude.{Bool, true, false, not, cond, ◌||◌, List, [], ◌∷◌, ℕ, ◌+◌, ◌≤◌, eqb, length, Option, Some, None, is_some}
 use Rattle.std.proofs.Common.{arith, lit≤, length-append}
-use Rattle.mini.specs.Chunks.{is_present}
 use Rattle.mini.specs.Cut.{sum}
 use Rattle.mini.specs.Same.{chunk_len}
-use Rattle.mini.specs.Views.{has_tmap_cicp}
-use Rattle.mini.specs.declared.Chunk.{Chunk}
-use Rattle.mini.specs.declared.Chunk.TheVariants as chunk-is
 use Rattle.mini.specs.declared.MiniChroma.{MiniChroma}
 use Rattle.mini.specs.declared.MiniHdrBoxes.{MiniHdrBoxes}
 use Rattle.mini.specs.declared.MinimizedImage.{MinimizedImage}
+use Rattle.mini.specs.declared.Span.{Span}
 use Rattle.properties.specs.HdrBoxes.{cclv_len}
 use Rattle.properties.specs.Lengths.{cclv_len_most}
 use Rattle.properties.specs.Orientation.{turns_of}
 use Rattle.properties.specs.Pixi.{Channel, channels_of, pixi_len}
-use Rattle.properties.specs.declared.Turn.{Turn}
-use Rattle.properties.specs.declared.Turn.TheVariants.{Unturned, By}
 use Rattle.slots.specs.Associations.{is_kept, kept, main_row, alpha_row, tmap_row, gain_map_row}
 use Rattle.slots.specs.Lengths.{prof_slot_len, turn_slot_len, if_there_len, main_lens, alpha_lens, orientation_lens, hdr_lens, gain_map_lens, tmap_lens, picture_len, tone_map_len, ipco_len, row_len, ipma_body_len, iprp_len}
 use Rattle.slots.specs.Used.{used_slots}
@@ -26,13 +21,13 @@ pub cond_most : (t : Bool) (a b m : ℕ) → a ≤ m → b ≤ m → cond t a b 
 cond_most true a b m p q = p
 cond_most false a b m p q = q
 
-pub prof_most : (c : Chunk) → prof_slot_len c ≤ 12 + chunk_len c
-prof_most chunk-is.Absent = lit≤ tt
-prof_most (chunk-is.Present at len) = omega arith
+pub prof_most : (c : Option Span) → prof_slot_len c ≤ 12 + chunk_len c
+prof_most None = lit≤ tt
+prof_most (Some x) = omega arith
 
-pub turn_most : (t : Turn) → turn_slot_len t ≤ 9
-turn_most Unturned = lit≤ tt
-turn_most (By quarter) = lit≤ tt
+pub turn_most : (t : Option ℕ) → turn_slot_len t ≤ 9
+turn_most None = lit≤ tt
+turn_most (Some turn) = lit≤ tt
 
 pixi_of : (t : Bool) (a b d : Channel) → pixi_len (cond t (a ∷ []) (a ∷ b ∷ d ∷ [])) ≤ 22
 pixi_of true a b d = lit≤ tt
@@ -77,7 +72,7 @@ module _ (i : MinimizedImage) (b : Bounded i) where
   tmap_item_most =
       omega (
         arith,
-        cond_most (has_tmap_cicp i.gain_map.tmap_cicp || not (is_present i.gain_map.tmap_icc)) 19 8 19 (lit≤ tt) (lit≤ tt),
+        cond_most (is_some i.gain_map.tmap_cicp || not (is_some i.gain_map.tmap_icc)) 19 8 19 (lit≤ tt) (lit≤ tt),
         prof_most i.gain_map.tmap_icc,
         b.tmap_icc_size,
       )

@@ -1,29 +1,22 @@
 -- 'ipco', 'ipma' and 'iprp' are as long as the record alone says, where its chunks lie in the source.
-use Rattle.std.specs.Prelude.{◌≡◌, Bool, true, false, ◌||◌, List, [], ◌++◌, ℕ, zero, suc, ◌*◌, ltb, length, take, drop, replicate}
+use Rattle.std.specs.Prelude.{◌≡◌, Bool, true, false, ◌||◌, List, [], ◌++◌, ℕ, zero, suc, ◌*◌, ltb, length, drop, replicate, Option, Some, None, is_some}
 use Rattle.std.proofs.Math.Path.{refl}
 use Rattle.std.proofs.Common.{◌∙◌, arith, ltb-false, length-drop, length-take-le}
 use Rattle.std.proofs.Math.Bool.{not}
 use Rattle.std.proofs.Math.ListN.{length-append}
 use Rattle.octets.specs.BigEndianLaws.{length-be}
 use Rattle.boxes.specs.Boxed.{length-boxed, length-full_box_header}
-use Rattle.mini.specs.Chunks.{is_present}
 use Rattle.mini.specs.Cut.{sum}
 use Rattle.mini.specs.Same.{span_bytes}
 use Rattle.mini.specs.ShownSize.{shown_size}
-use Rattle.mini.specs.Views.{has_tmap_cicp}
-use Rattle.mini.specs.declared.Chunk.{Chunk}
-use Rattle.mini.specs.declared.Chunk.TheVariants as chunk-is
-use Rattle.mini.specs.declared.ExplicitCodecTypes.{ExplicitCodecTypes}
+use Rattle.mini.specs.declared.CodecTypes.{CodecTypes}
 use Rattle.mini.specs.declared.MiniHdrBoxes.{MiniHdrBoxes}
 use Rattle.mini.specs.declared.MinimizedImage.{MinimizedImage}
 use Rattle.mini.specs.declared.Span.{Span}
 use Rattle.mini.specs.declared.TmapCicp.{TmapCicp}
-use Rattle.mini.specs.declared.TmapCicp.TheVariants as tmap-is
 use Rattle.properties.specs.HdrBoxes.{clli, clli_len, mdcv, mdcv_len, cclv, cclv_len, amve, amve_len, reve, reve_len, ndwt, ndwt_len}
 use Rattle.properties.specs.Lengths.{length-ispe, length-nclx, length-prof, length-codec_config, length-aux_c, length-irot, length-imir, length-pixi, length-clli, length-mdcv, length-cclv, length-amve, length-reve, length-ndwt}
 use Rattle.properties.specs.Property.{ispe_len, nclx_len, codec_config}
-use Rattle.properties.specs.declared.Turn.{Turn}
-use Rattle.properties.specs.declared.Turn.TheVariants.{Unturned, By}
 use Rattle.slots.specs.Associations.{row, row_if, ipma_body, ipma_with, ipma, iprp}
 use Rattle.slots.specs.Bodies.{Bodies}
 use Rattle.slots.specs.Lengths.{only_if_len, config_slot_len, prof_slot_len, turn_slot_len, if_there_len, main_lens, alpha_lens, orientation_lens, hdr_lens, gain_map_lens, tmap_lens, picture_len, tone_map_len, ipco_len, row_len, row_if_len, ipma_len, iprp_len}
@@ -43,29 +36,28 @@ length_only false box n e = length-free
 pub length_span : (x : Span) (s : List ℕ) → SpanPlaced x s → length (span_bytes x s) ≡ x.len
 length_span x s p = length-take-le x.len (drop x.at s) (simp length-drop (omega arith))
 
-length_config : (types : ExplicitCodecTypes) (x : Span) (s : List ℕ) → SpanPlaced x s → length (slot_bytes (config_slot types x s)) ≡ config_slot_len x
+length_config : (types : Option CodecTypes) (x : Span) (s : List ℕ) → SpanPlaced x s → length (slot_bytes (config_slot types x s)) ≡ config_slot_len x
 length_config types x s p = go (ltb 0 x.len) refl
   where
     go : (t : Bool) → ltb 0 x.len ≡ t → length (slot_bytes (only_if t (codec_config (config_type types) (span_bytes x s)))) ≡ config_slot_len x
     go true e = length-codec_config (config_type types) (span_bytes x s) ∙ rw (length_span x s p)
     go false e = omega (arith, length-free, ltb-false 0 x.len e)
 
-length_profile : (c : Chunk) (s : List ℕ) → ChunkPlaced c s → length (slot_bytes (prof_slot c s)) ≡ prof_slot_len c
-length_profile chunk-is.Absent s p = length-free
-length_profile (chunk-is.Present at len) s p =
-    length-prof (take len (drop at s)) ∙ rw (length-take-le len (drop at s) (simp length-drop (omega arith)))
+length_profile : (c : Option Span) (s : List ℕ) → ChunkPlaced c s → length (slot_bytes (prof_slot c s)) ≡ prof_slot_len c
+length_profile None s p = length-free
+length_profile (Some x) s p = length-prof (span_bytes x s) ∙ rw (length_span x s p)
 
-length_rotation : (t : Turn) → length (slot_bytes (irot_slot t)) ≡ turn_slot_len t
-length_rotation Unturned = length-free
-length_rotation (By angle) = length-irot angle
+length_rotation : (t : Option ℕ) → length (slot_bytes (irot_slot t)) ≡ turn_slot_len t
+length_rotation None = length-free
+length_rotation (Some angle) = length-irot angle
 
-length_mirror : (t : Turn) → length (slot_bytes (imir_slot t)) ≡ turn_slot_len t
-length_mirror Unturned = length-free
-length_mirror (By axis) = length-imir axis
+length_mirror : (t : Option ℕ) → length (slot_bytes (imir_slot t)) ≡ turn_slot_len t
+length_mirror None = length-free
+length_mirror (Some axis) = length-imir axis
 
-length_colour : (c : TmapCicp) → length (tmap_nclx c) ≡ nclx_len
-length_colour tmap-is.Absent = length-nclx 1 13 6 true
-length_colour (tmap-is.Present primaries transfer matrix full) = length-nclx primaries transfer matrix full
+length_colour : (c : Option TmapCicp) → length (tmap_nclx c) ≡ nclx_len
+length_colour None = length-nclx 1 13 6 true
+length_colour (Some c) = length-nclx c.primaries c.transfer c.matrix c.full_range
 
 length_shown : (i : MinimizedImage) → length (shown_ispe i) ≡ ispe_len
 length_shown i = length-ispe (shown_size i).width (shown_size i).height
@@ -123,7 +115,7 @@ module _ (i : MinimizedImage) (s : List ℕ) (o : Sound i s) where
   unfolding tmap_slots slots_bytes
   length_tmap =
       let g = i.gain_map in
-      let n = length_only (has_tmap_cicp g.tmap_cicp || not (is_present g.tmap_icc)) (tmap_nclx g.tmap_cicp) nclx_len (length_colour g.tmap_cicp) in
+      let n = length_only (is_some g.tmap_cicp || not (is_some g.tmap_icc)) (tmap_nclx g.tmap_cicp) nclx_len (length_colour g.tmap_cicp) in
       let p = length_profile g.tmap_icc s o.tmap_icc_placed in
       simp (length-append, length_shown i, n, p)
 

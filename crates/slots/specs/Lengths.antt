@@ -1,10 +1,6 @@
 -- How long 'ipco', 'ipma' and 'iprp' are: from the record alone, slot by slot as in Slots.antt.
-use Rattle.std.specs.Prelude.{Bool, not, cond, ◌||◌, List, [], ◌∷◌, ℕ, ◌+◌, ◌*◌, length}
-use Rattle.mini.specs.Chunks.{is_present}
+use Rattle.std.specs.Prelude.{Bool, not, cond, ◌||◌, List, [], ◌∷◌, ℕ, ◌+◌, ◌*◌, length, Option, Some, None, is_some}
 use Rattle.mini.specs.Cut.{sum}
-use Rattle.mini.specs.Views.{has_tmap_cicp}
-use Rattle.mini.specs.declared.Chunk.{Chunk}
-use Rattle.mini.specs.declared.Chunk.TheVariants as chunk-is
 use Rattle.mini.specs.declared.MiniHdrBoxes.{MiniHdrBoxes}
 use Rattle.mini.specs.declared.MinimizedImage.{MinimizedImage}
 use Rattle.mini.specs.declared.Span.{Span}
@@ -13,8 +9,6 @@ use Rattle.properties.specs.HdrBoxes.{clli_len, mdcv_len, cclv_len, amve_len, re
 use Rattle.properties.specs.Orientation.{turns_of}
 use Rattle.properties.specs.Pixi.{channels_of, alpha_channels, pixi_len}
 use Rattle.properties.specs.Property.{ispe_len, nclx_len, prof_len, codec_config_len, aux_c_len, turn_len}
-use Rattle.properties.specs.declared.Turn.{Turn}
-use Rattle.properties.specs.declared.Turn.TheVariants.{Unturned, By}
 use Rattle.slots.specs.Associations.{kept, main_row, alpha_row, tmap_row, gain_map_row}
 use Rattle.slots.specs.Slots.{has_alpha_item, has_gain_map_item, alpha_config, gain_map_config}
 use Rattle.slots.specs.Used.{used_slots}
@@ -27,16 +21,16 @@ only_if_len t n = cond t n 8
 abbrev pub config_slot_len : Span → ℕ
 config_slot_len config = codec_config_len config.len
 
-abbrev pub prof_slot_len : Chunk → ℕ
-prof_slot_len chunk-is.Absent = 8
-prof_slot_len (chunk-is.Present at len) = prof_len len
+abbrev pub prof_slot_len : Option Span → ℕ
+prof_slot_len None = 8
+prof_slot_len (Some x) = prof_len x.len
 
-abbrev pub turn_slot_len : Turn → ℕ
-turn_slot_len Unturned = 8
-turn_slot_len (By quarter) = turn_len
+abbrev pub turn_slot_len : Option ℕ → ℕ
+turn_slot_len None = 8
+turn_slot_len (Some turn) = turn_len
 
-abbrev pub tmap_nclx_slot_len : TmapCicp → Chunk → ℕ
-tmap_nclx_slot_len cicp icc = only_if_len (has_tmap_cicp cicp || not (is_present icc)) nclx_len
+abbrev pub tmap_nclx_slot_len : Option TmapCicp → Option Span → ℕ
+tmap_nclx_slot_len cicp icc = only_if_len (is_some cicp || not (is_some icc)) nclx_len
 
 abbrev pub if_there_len : Bool → List ℕ → ℕ
 if_there_len t lens = cond t (sum lens) (8 * length lens)

@@ -1,16 +1,14 @@
 -- Laws of the slots: how they are joined, how many there are, and which are used.
-use Rattle.std.specs.Prelude.{◌≡◌, refl, Bool, true, false, ◌&&◌, List, [], ◌∷◌, ◌++◌, map, ℕ, zero, suc, ◌+◌, length, replicate}
+use Rattle.std.specs.Prelude.{◌≡◌, refl, Bool, true, false, ◌&&◌, List, [], ◌∷◌, ◌++◌, map, ℕ, zero, suc, ◌+◌, length, replicate, Option, Some, None, is_some}
 use Rattle.std.proofs.Common.{sym, ap, ◌∙◌, append-nil, append_assoc, add-zero, length-append}
 use Rattle.std.proofs.lemmas.List.{length-replicate}
 use Rattle.octets.specs.Overwrite.{Wrote}
 use Rattle.octets.specs.OverwriteLaws.{then, recast}
 use Rattle.mini.specs.declared.MiniHdrBoxes.{MiniHdrBoxes}
 use Rattle.mini.specs.declared.MinimizedImage.{MinimizedImage}
-use Rattle.properties.specs.declared.Turn.{Turn}
-use Rattle.properties.specs.declared.Turn.TheVariants.{Unturned, By}
 use Rattle.slots.specs.Associations.{used_by}
-use Rattle.slots.specs.Used.{is_turned, used_if, main_used, alpha_used, orientation_used, hdr_used, gain_map_used, tmap_used, used_slots}
-use Rattle.slots.specs.Slots.{Slot, none, is_used, free, slot_bytes, only_if, if_there, irot_slot, imir_slot, main_slots, alpha_slots, orientation_slots, hdr_slots, gain_map_slots, tmap_slots, picture_slots, tone_map_slots, slots, slots_bytes}
+use Rattle.slots.specs.Used.{used_if, main_used, alpha_used, orientation_used, hdr_used, gain_map_used, tmap_used, used_slots}
+use Rattle.slots.specs.Slots.{Slot, none, is_used, free, slot_bytes, only_if, if_there, turn_slot, main_slots, alpha_slots, orientation_slots, hdr_slots, gain_map_slots, tmap_slots, picture_slots, tone_map_slots, slots, slots_bytes}
 
 -- ---- joined
 pub slots-append : (xs ys : List Slot) → slots_bytes (xs ++ ys) ≡ slots_bytes xs ++ slots_bytes ys
@@ -55,13 +53,9 @@ used_only : (t : Bool) (box : List ℕ) → is_used (only_if t box) ≡ t
 used_only true box = refl
 used_only false box = refl
 
-used_irot : (t : Turn) → is_used (irot_slot t) ≡ is_turned t
-used_irot Unturned = refl
-used_irot (By quarter) = refl
-
-used_imir : (t : Turn) → is_used (imir_slot t) ≡ is_turned t
-used_imir Unturned = refl
-used_imir (By quarter) = refl
+used_turn : (box : ℕ → List ℕ) (t : Option ℕ) → is_used (turn_slot box t) ≡ is_some t
+used_turn box None = refl
+used_turn box (Some turn) = refl
 
 map-append : (xs ys : List Slot) → map is_used (xs ++ ys) ≡ map is_used xs ++ map is_used ys
 map-append [] ys = refl
@@ -87,7 +81,7 @@ used_alpha i s = simp used_only
 
 used_orientation : (i : MinimizedImage) → map is_used (orientation_slots i) ≡ orientation_used i
 unfolding orientation_slots
-used_orientation i = simp (used_irot, used_imir)
+used_orientation i = simp used_turn
 
 used_gain_map : (i : MinimizedImage) (s : List ℕ) → map is_used (gain_map_slots i s) ≡ gain_map_used i
 unfolding gain_map_slots

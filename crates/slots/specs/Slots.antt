@@ -15,29 +15,21 @@
 --     23          'colr' prof                   a gain map with an ICC profile for the tone map
 --     24 to 29    the HDR boxes                 a gain map, and it holds the body
 --     30, 31, 32  none                          never
-use Rattle.std.specs.Prelude.{Bool, true, false, not, ◌&&◌, ◌||◌, List, [], ◌∷◌, ◌++◌, map, ℕ, ltb, length, replicate}
+use Rattle.std.specs.Prelude.{Bool, true, false, not, ◌&&◌, ◌||◌, List, [], ◌∷◌, ◌++◌, map, ℕ, ltb, length, replicate, Option, Some, None, is_some}
 use Rattle.boxes.specs.Boxed.{boxed}
-use Rattle.mini.specs.Chunks.{is_present}
 use Rattle.mini.specs.Cicp.{cicp_of}
 use Rattle.mini.specs.Cut.{joined}
 use Rattle.mini.specs.Same.{chunk_bytes, span_bytes}
 use Rattle.mini.specs.ShownSize.{shown_size}
-use Rattle.mini.specs.Views.{has_tmap_cicp}
-use Rattle.mini.specs.declared.Chunk.{Chunk}
-use Rattle.mini.specs.declared.Chunk.TheVariants as chunk-is
-use Rattle.mini.specs.declared.ExplicitCodecTypes.{ExplicitCodecTypes}
-use Rattle.mini.specs.declared.ExplicitCodecTypes.TheVariants as types_are
+use Rattle.mini.specs.declared.CodecTypes.{CodecTypes}
 use Rattle.mini.specs.declared.MiniHdrBoxes.{MiniHdrBoxes}
 use Rattle.mini.specs.declared.MinimizedImage.{MinimizedImage}
 use Rattle.mini.specs.declared.Span.{Span}
 use Rattle.mini.specs.declared.TmapCicp.{TmapCicp}
-use Rattle.mini.specs.declared.TmapCicp.TheVariants as tmap-is
 use Rattle.properties.specs.HdrBoxes.{clli, mdcv, cclv, amve, reve, ndwt}
 use Rattle.properties.specs.Orientation.{turns_of}
 use Rattle.properties.specs.Pixi.{channels_of, alpha_channels, pixi}
 use Rattle.properties.specs.Property.{ispe, nclx, prof, codec_config, aux_c, irot, imir}
-use Rattle.properties.specs.declared.Turn.{Turn}
-use Rattle.properties.specs.declared.Turn.TheVariants.{Unturned, By}
 
 -- a property's box, or none
 pub data Slot : Type 0 where
@@ -72,14 +64,14 @@ abbrev pub has_gain_map_item : MinimizedImage → Bool
 has_gain_map_item i = i.has_gain_map && ltb 0 i.gain_map.«data».len
 
 -- the type of the codec configurations; expanding is refused where there is none (14)
-abbrev pub config_type : ExplicitCodecTypes → ℕ
-config_type types_are.Absent = 0
-config_type (types_are.Present infe config) = config
+abbrev pub config_type : Option CodecTypes → ℕ
+config_type None = 0
+config_type (Some types) = types.codec_config_type
 
 -- the configuration of alpha or gain map: its own, else the main picture's
-abbrev pub config_or : Chunk → Span → Span
-config_or chunk-is.Absent main = main
-config_or (chunk-is.Present at len) main = record { at = at; len = len }
+abbrev pub config_or : Option Span → Span → Span
+config_or None main = main
+config_or (Some own) main = own
 
 abbrev pub alpha_config : MinimizedImage → Span
 alpha_config i = config_or i.alpha_codec_config i.main_codec_config
@@ -89,28 +81,30 @@ gain_map_config i = config_or i.gain_map.codec_config i.main_codec_config
 
 -- ---- the kinds of slots
 -- an empty configuration has no box
-abbrev pub config_slot : ExplicitCodecTypes → Span → List ℕ → Slot
+abbrev pub config_slot : Option CodecTypes → Span → List ℕ → Slot
 config_slot types config s = only_if (ltb 0 config.len) (codec_config (config_type types) (span_bytes config s))
 
-abbrev pub prof_slot : Chunk → List ℕ → Slot
-prof_slot icc s = only_if (is_present icc) (prof (chunk_bytes icc s))
+abbrev pub prof_slot : Option Span → List ℕ → Slot
+prof_slot icc s = only_if (is_some icc) (prof (chunk_bytes icc s))
 
-abbrev pub irot_slot : Turn → Slot
-irot_slot Unturned = none
-irot_slot (By angle) = some (irot angle)
+abbrev pub turn_slot : (ℕ → List ℕ) → Option ℕ → Slot
+turn_slot box None = none
+turn_slot box (Some turn) = some (box turn)
 
-abbrev pub imir_slot : Turn → Slot
-imir_slot Unturned = none
-imir_slot (By axis) = some (imir axis)
+abbrev pub irot_slot : Option ℕ → Slot
+irot_slot angle = turn_slot irot angle
+
+abbrev pub imir_slot : Option ℕ → Slot
+imir_slot axis = turn_slot imir axis
 
 -- the tone map's colour: sRGB where it is not told (Table O.5)
-abbrev pub tmap_nclx : TmapCicp → List ℕ
-tmap_nclx tmap-is.Absent = nclx 1 13 6 true
-tmap_nclx (tmap-is.Present primaries transfer matrix full) = nclx primaries transfer matrix full
+abbrev pub tmap_nclx : Option TmapCicp → List ℕ
+tmap_nclx None = nclx 1 13 6 true
+tmap_nclx (Some c) = nclx c.primaries c.transfer c.matrix c.full_range
 
 -- a profile alone needs no colour beside it
-abbrev pub tmap_nclx_slot : TmapCicp → Chunk → Slot
-tmap_nclx_slot cicp icc = only_if (has_tmap_cicp cicp || not (is_present icc)) (tmap_nclx cicp)
+abbrev pub tmap_nclx_slot : Option TmapCicp → Option Span → Slot
+tmap_nclx_slot cicp icc = only_if (is_some cicp || not (is_some icc)) (tmap_nclx cicp)
 
 -- ---- the table
 -- 1 to 5, the main picture: configuration, size, channels, colour, profile

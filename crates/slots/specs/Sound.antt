@@ -1,15 +1,12 @@
 -- What the writers of 'iprp' need of a record and its source: a number in its field, chunks that lie in the source, and lengths within
 -- the long fields' limits (document 01, 'src/mini.rs, writing'). Every record that is well placed and can be written has it.
-use Rattle.std.specs.Prelude.{◌≡◌, refl, Bool, true, false, not, ◌&&◌, ◌||◌, List, ℕ, ◌+◌, ◌≤◌, T, length}
+use Rattle.std.specs.Prelude.{◌≡◌, refl, Bool, true, false, not, ◌&&◌, ◌||◌, List, ℕ, ◌+◌, ◌≤◌, T, length, Option, Some, None, is_some}
 use Rattle.std.proofs.Common.{ap, true≢false, leb→le}
 use Rattle.bits.specs.Format.{and_split}
 use Rattle.mini.specs.Blank.{blank_gain_map}
-use Rattle.mini.specs.Chunks.{is_present}
 use Rattle.mini.specs.NoPayloadGives.{Lawful, lawful}
 use Rattle.mini.specs.Same.{chunk_len, chunk_in, span_in, gain_in, unplaced_chunk, unplaced, well_placed}
 use Rattle.mini.specs.Write.{writable}
-use Rattle.mini.specs.declared.Chunk.{Chunk}
-use Rattle.mini.specs.declared.Chunk.TheVariants as chunk-is
 use Rattle.mini.specs.declared.MiniGainMap.{MiniGainMap}
 use Rattle.mini.specs.declared.MinimizedImage.{MinimizedImage}
 use Rattle.mini.specs.declared.Span.{Span}
@@ -18,9 +15,9 @@ use Rattle.slots.specs.Slots.{config_or}
 abbrev pub SpanPlaced : Span → List ℕ → Type 0
 SpanPlaced x s = x.at + x.len ≤ length s
 
-abbrev pub ChunkPlaced : Chunk → List ℕ → Type 0
-ChunkPlaced chunk-is.Absent s = Unit
-ChunkPlaced (chunk-is.Present at len) s = at + len ≤ length s
+abbrev pub ChunkPlaced : Option Span → List ℕ → Type 0
+ChunkPlaced None s = Unit
+ChunkPlaced (Some x) s = SpanPlaced x s
 
 -- the numbers
 pub record Bounded (i : MinimizedImage) : Type 0 where
@@ -51,14 +48,14 @@ bounded_of i l =
       tmap_icc_size = l.tmap_icc_size;
     }
 
-pub placed_of : (c : Chunk) (s : List ℕ) → T (chunk_in c (length s)) → ChunkPlaced c s
-placed_of chunk-is.Absent s h = tt
-placed_of (chunk-is.Present at len) s h = leb→le (at + len) (length s) h
+pub placed_of : (c : Option Span) (s : List ℕ) → T (chunk_in c (length s)) → ChunkPlaced c s
+placed_of None s h = tt
+placed_of (Some x) s h = leb→le (x.at + x.len) (length s) h
 
 -- a blank gain map has no chunk
-absent_placed : (c : Chunk) (s : List ℕ) → unplaced_chunk c ≡ chunk-is.Absent → ChunkPlaced c s
-absent_placed chunk-is.Absent s e = tt
-absent_placed (chunk-is.Present at len) s e = absurd (true≢false (ap is_present e))
+absent_placed : (c : Option Span) (s : List ℕ) → unplaced_chunk c ≡ None → ChunkPlaced c s
+absent_placed None s e = tt
+absent_placed (Some x) s e = absurd (true≢false (ap is_some e))
 
 gain_placed : (has : Bool) (i : MinimizedImage) (s : List ℕ) → (has ≡ false → (unplaced i).gain_map ≡ blank_gain_map) → T (not has || gain_in i (length s))
     → ChunkPlaced i.gain_map.codec_config s × ChunkPlaced i.gain_map.tmap_icc s
@@ -95,10 +92,10 @@ sound i s p w =
     }
 
 -- ---- the configuration of alpha or gain map
-pub config_placed : (c : Chunk) (main : Span) (s : List ℕ) → ChunkPlaced c s → SpanPlaced main s → SpanPlaced (config_or c main) s
-config_placed chunk-is.Absent main s p q = q
-config_placed (chunk-is.Present at len) main s p q = p
+pub config_placed : (c : Option Span) (main : Span) (s : List ℕ) → ChunkPlaced c s → SpanPlaced main s → SpanPlaced (config_or c main) s
+config_placed None main s p q = q
+config_placed (Some own) main s p q = p
 
-pub config_most : (c : Chunk) (main : Span) → chunk_len c ≤ 4095 → main.len ≤ 4095 → (config_or c main).len ≤ 4095
-config_most chunk-is.Absent main p q = q
-config_most (chunk-is.Present at len) main p q = p
+pub config_most : (c : Option Span) (main : Span) → chunk_len c ≤ 4095 → main.len ≤ 4095 → (config_or c main).len ≤ 4095
+config_most None main p q = q
+config_most (Some own) main p q = p

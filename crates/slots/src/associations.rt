@@ -1,17 +1,15 @@
 // 'ipma': for each item the slots that hold its properties, in the order in which they apply; free slots are dropped.
-ghost use Rattle.std.specs.Prelude.{◌≡◌, cond, [], ◌∷◌, ◌+◌, ◌≤◌, ◌<◌, length};
+ghost use Rattle.std.specs.Prelude.{◌≡◌, ◌+◌, ◌≤◌, ◌<◌, length};
 ghost use Rattle.octets.specs.Overwrite.{Wrote};
-ghost use Rattle.slots.specs.Associations.{is_kept, kept, row, row_if, one, row_count, ipma_body, ipma_with};
+ghost use Rattle.slots.specs.Associations.{is_kept, kept, row, row_if, row_count, ipma_body, ipma_with};
 ghost use Rattle.slots.specs.Lengths.{row_len, row_if_len, ipma_body_len, ipma_len};
-ghost use Rattle.slots.specs.Used.{is_turned, used_slots};
+ghost use Rattle.slots.specs.Used.{used_slots};
 ghost use Rattle.slots.specs.Sound.{Bounded};
 
-use crate::groups::{config_or, has_alpha_item, has_gain_map_item};
-use bits::{both, either};
+use crate::groups::{alpha_config, gain_map_config, has_alpha_item, has_gain_map_item};
 use boxes::{FourCc, put_box_header, put_full_box_header};
 use mini::{ItemKind, MinimizedImage};
-use octets::{put_u8, put_u16, put_u32};
-use properties::Turn;
+use octets::{put, put_u8};
 use properties::orientation::turns_of;
 
 const IPMA: FourCc = 0x69706D61;
@@ -56,84 +54,49 @@ pub const GAIN_MAP_ROW: [u8; 6] = [
     ESSENTIAL + 10,
 ];
 
-fn is_turned(turn: Turn) -> bool
-    ensures { result ≡ is_turned turn }
-{
-    match turn {
-        Turn::Unturned => false,
-        Turn::By(_) => true,
-    }
-}
-
 // Which slots are used, by number; 0 is none.
 pub fn used_slots(image: MinimizedImage) -> [bool; 33]
     requires { Bounded image }
     ensures { result ≡ used_slots image }
 {
-    let g = image.gain_map;
-    let h = image.hdr_boxes;
-    let t = g.tmap_hdr;
-    let main = image.main_codec_config;
-    let alpha_own = image.alpha_codec_config;
-    let gain_own = g.codec_config;
-    let icc = image.icc;
-    let tmap_icc = g.tmap_icc;
-    let tmap_cicp = g.tmap_cicp;
     let turns = turns_of(image.orientation);
-    let angle = turns.angle;
-    let axis = turns.axis;
-    let alpha_config = config_or(alpha_own, main);
-    let gain_config = config_or(gain_own, main);
+    let h = image.hdr_boxes;
+    let g = image.gain_map;
+    let t = g.tmap_hdr;
     let alpha = has_alpha_item(image);
     let gain = has_gain_map_item(image);
     let tmap = image.has_gain_map;
-    let profile = icc.is_present();
-    let tmap_profile = tmap_icc.is_present();
-    let told = tmap_cicp.is_present();
-    let rotated = is_turned(angle);
-    let mirrored = is_turned(axis);
-    let s6 = both(alpha, 0 < alpha_config.len);
-    let s17 = both(gain, 0 < gain_config.len);
-    let coloured = either(told, !tmap_profile);
-    let s22 = both(tmap, coloured);
-    let s23 = both(tmap, tmap_profile);
-    let s24 = both(tmap, t.has_clli);
-    let s25 = both(tmap, t.has_mdcv);
-    let s26 = both(tmap, t.has_cclv);
-    let s27 = both(tmap, t.has_amve);
-    let s28 = both(tmap, t.has_reve);
-    let s29 = both(tmap, t.has_ndwt);
     [
         false,
-        0 < main.len,
+        0 < image.main_codec_config.len,
         true,
         true,
         true,
-        profile,
-        s6,
+        image.icc.is_some(),
+        alpha & (0 < alpha_config(image).len),
         alpha,
         alpha,
-        rotated,
-        mirrored,
+        turns.angle.is_some(),
+        turns.axis.is_some(),
         h.has_clli,
         h.has_mdcv,
         h.has_cclv,
         h.has_amve,
         h.has_reve,
         h.has_ndwt,
-        s17,
+        gain & (0 < gain_map_config(image).len),
         gain,
         gain,
         gain,
         tmap,
-        s22,
-        s23,
-        s24,
-        s25,
-        s26,
-        s27,
-        s28,
-        s29,
+        tmap & (g.tmap_cicp.is_some() | g.tmap_icc.is_none()),
+        tmap & g.tmap_icc.is_some(),
+        tmap & t.has_clli,
+        tmap & t.has_mdcv,
+        tmap & t.has_cclv,
+        tmap & t.has_amve,
+        tmap & t.has_reve,
+        tmap & t.has_ndwt,
         false,
         false,
         false,
@@ -143,70 +106,41 @@ pub fn used_slots(image: MinimizedImage) -> [bool; 33]
 fn is_kept(used: [bool; 33], x: u8) -> bool
     ensures { result ≡ is_kept used x }
 {
-    let slot = (x % 128) as usize;
-    if slot < 33 {
-        return used[slot];
-    }
-    false
-}
-
-fn put_if(out: &mut [u8], at: usize, keep: bool, x: u8) -> usize
-    requires { at + one keep ≤ length out.old }
-    ensures { Wrote out.old at (one keep) (cond keep (x ∷ []) []) out.new result }
-{
-    if keep {
-        return put_u8(out, at, x);
-    }
-    at
+    used.get(usize::from(x % 128)).copied().unwrap_or(false)
 }
 
 fn put_kept(out: &mut [u8], at: usize, used: [bool; 33], xs: &[u8]) -> usize
     requires { at + length (kept used xs.now) ≤ length out.old }
     ensures { Wrote out.old at (length (kept used xs.now)) (kept used xs.now) out.new result }
 {
-    let mut p = at;
-    let mut j = 0;
-    while j < xs.len() {
-        let x = xs[j];
-        let keep = is_kept(used, x);
-        p = put_if(out, p, keep, x);
-        j += 1;
+    let mut next = at;
+    for &x in xs {
+        if is_kept(used, x) {
+            next = put_u8(out, next, x);
+        }
     }
-    p
-}
-
-fn count_if(keep: bool) -> usize
-    ensures { (result ≡ one keep) × (result ≤ 1) }
-{
-    if keep { 1 } else { 0 }
+    next
 }
 
 // How many associations are kept.
 pub fn kept_len(used: [bool; 33], xs: &[u8]) -> usize
     ensures { (result ≡ length (kept used xs.now)) × (result ≤ length xs.now) }
 {
-    let mut n = 0;
-    let mut j = 0;
-    while j < xs.len() {
-        let x = xs[j];
-        let keep = is_kept(used, x);
-        let one = count_if(keep);
-        n += one;
-        j += 1;
-    }
-    n
+    xs.iter().filter(|x| is_kept(used, **x)).count()
 }
 
+#[tactic(auto, using(octets::specs::OverwriteLaws::writes), unfolding(crate::specs::Associations::row))]
 fn put_row(out: &mut [u8], at: usize, item: u16, used: [bool; 33], xs: &[u8]) -> usize
     requires { (at + row_len used xs.now ≤ length out.old) × (length xs.now ≤ 255) }
     ensures { Wrote out.old at (row_len used xs.now) (row used item xs.now) out.new result }
 {
     let n = kept_len(used, xs);
-    let a = put_u16(out, at, item);
-    let b = put_u8(out, a, n as u8);
-    put_kept(out, b, used, xs)
+    let at = put::<2>(out, at, item as u64);
+    let at = put_u8(out, at, n as u8);
+    put_kept(out, at, used, xs)
 }
 
+#[tactic(auto, using(octets::specs::OverwriteLaws::nothing))]
 fn put_row_if(
     out: &mut [u8],
     at: usize,
@@ -219,42 +153,40 @@ fn put_row_if(
     ensures { Wrote out.old at (row_if_len there used xs.now) (row_if there used item xs.now) out.new result }
 {
     if there {
-        return put_row(out, at, item, used, xs);
+        put_row(out, at, item, used, xs)
+    } else {
+        at
     }
-    at
 }
 
 fn row_count(image: MinimizedImage) -> u32
     ensures { result ≡ row_count image }
 {
-    let alpha = count_if(has_alpha_item(image));
-    let tmap = count_if(image.has_gain_map);
-    let gain = count_if(has_gain_map_item(image));
-    (1 + alpha + tmap + gain) as u32
+    1 + u32::from(has_alpha_item(image))
+        + u32::from(image.has_gain_map)
+        + u32::from(has_gain_map_item(image))
 }
 
 fn ipma_body(out: &mut [u8], image: MinimizedImage, used: [bool; 33]) -> usize
     requires { ipma_body_len image used ≤ length out.old }
     ensures { Wrote out.old 0 (ipma_body_len image used) (ipma_body image used) out.new result }
 {
-    let rows = row_count(image);
     let alpha = has_alpha_item(image);
-    let tmap = image.has_gain_map;
     let gain = has_gain_map_item(image);
-    let a = put_full_box_header(out, 0, 0, 0);
-    let b = put_u32(out, a, rows);
-    let c = put_row(out, b, ItemKind::MAIN, used, &MAIN_ROW);
-    let d = put_row_if(out, c, alpha, ItemKind::ALPHA, used, &ALPHA_ROW);
-    let e = put_row_if(out, d, tmap, ItemKind::TMAP, used, &TMAP_ROW);
-    put_row_if(out, e, gain, ItemKind::GAIN_MAP, used, &GAIN_MAP_ROW)
+    let at = put_full_box_header(out, 0, 0, 0);
+    let at = put::<4>(out, at, row_count(image) as u64);
+    let at = put_row(out, at, ItemKind::MAIN, used, &MAIN_ROW);
+    let at = put_row_if(out, at, alpha, ItemKind::ALPHA, used, &ALPHA_ROW);
+    let at = put_row_if(out, at, image.has_gain_map, ItemKind::TMAP, used, &TMAP_ROW);
+    put_row_if(out, at, gain, ItemKind::GAIN_MAP, used, &GAIN_MAP_ROW)
 }
 
+#[tactic(auto, using(boxes::specs::Boxed::boxes), unfolding(crate::specs::Associations::ipma_with))]
 pub fn put_ipma(out: &mut [u8], at: usize, image: MinimizedImage) -> usize
     requires { (at + ipma_len image ≤ length out.old) × Bounded image }
     ensures { Wrote out.old at (ipma_len image) (ipma_with image (used_slots image)) out.new result }
 {
     let used = used_slots(image);
-    let start = at + 8;
-    let len = ipma_body(&mut out[start..], image, used);
+    let len = ipma_body(&mut out[at + 8..], image, used);
     put_box_header(out, at, len, IPMA)
 }

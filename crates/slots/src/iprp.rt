@@ -17,15 +17,15 @@ fn iprp_body(out: &mut [u8], image: MinimizedImage, source: &[u8]) -> usize
     requires { (ipco_len image + ipma_len image ≤ length out.old) × Sound image source.now }
     ensures { Wrote out.old 0 (ipco_len image + ipma_len image) (ipco image source.now ++ ipma image source.now) out.new result }
 {
-    let a = put_ipco(out, 0, image, source);
-    put_ipma(out, a, image)
+    let at = put_ipco(out, 0, image, source);
+    put_ipma(out, at, image)
 }
 
+#[tactic(auto, using(boxes::specs::Boxed::boxes, crate::specs::Bounds::iprp_most), unfolding(crate::specs::Associations::iprp))]
 pub fn put_iprp(out: &mut [u8], at: usize, image: MinimizedImage, source: &[u8]) -> usize
     requires { (at + iprp_len image ≤ length out.old) × Sound image source.now }
     ensures { Wrote out.old at (iprp_len image) (iprp image source.now) out.new result }
 {
-    let start = at + 8;
-    let len = iprp_body(&mut out[start..], image, source);
+    let len = iprp_body(&mut out[at + 8..], image, source);
     put_box_header(out, at, len, IPRP)
 }

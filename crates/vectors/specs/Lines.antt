@@ -1,6 +1,6 @@
 -- Document 01's lines marked P, those of 'src/mini.rs, reading', 'writing' and 'expanding', as one table proved by one statement over the
 -- definitions that the contracts cite.
-use Rattle.std.specs.Prelude.{◌≡◌, refl, false, cond, List, [], ◌∷◌, ◌++◌, map, ℕ, eqb, length, take, drop, replicate}
+use Rattle.std.specs.Prelude.{◌≡◌, refl, false, cond, List, [], ◌∷◌, ◌++◌, map, ℕ, eqb, length, take, drop, replicate, None}
 use Rattle.std.proofs.Common.{ap, ap₂, ◌∙◌, arith}
 use Rattle.octets.specs.BigEndian.{be, num}
 use Rattle.octets.specs.Overwrite.{overwrite}
@@ -33,7 +33,7 @@ use Rattle.mini.specs.Blank.{blank_hdr_boxes, blank_gain_map, blank_image}
 use Rattle.mini.specs.Chunks.{stored_sizes, stored_places, end_within}
 use Rattle.mini.specs.Image.{image_of}
 use Rattle.mini.specs.Payload.{header_bits, chunks_start}
-use Rattle.mini.specs.Read.{bits_to_boundary, past_trailing_bits, test_chunks, read_chunks, read_mini}
+use Rattle.mini.specs.Read.{bits_to_boundary, past_trailing_bits, test_chunks, read_chunks, read_mini, Reading}
 use Rattle.mini.specs.Same.{well_placed, chunks_of}
 use Rattle.mini.specs.Syntax.{flags, dimensions, chroma, float_format, integer_format, sample_format, explicit_cicp, explicit_codec_types, main_format, tmap_cicp, gain_map_dimension, gain_map_format, gain_map_header, cclv, cclv_for, hdr_boxes, chunk_sizes, header, trailing_bits}
 use Rattle.mini.specs.Cclv.{cclv_more}
@@ -41,12 +41,8 @@ use Rattle.mini.specs.Views.{float_code}
 use Rattle.mini.specs.Write.{least, header_with, header_of, payload_with, payload_of, writable}
 use Rattle.writer.specs.ToBox.{box_of}
 use Rattle.exports.specs.Answer.{answer, expand_refusal}
-use Rattle.mini.specs.declared.Chunk.TheVariants.{Absent}
 use Rattle.mini.specs.declared.SampleFormat.TheVariants.{Integer}
-use Rattle.mini.specs.declared.ExplicitCodecTypes.TheVariants as types_are
-use Rattle.mini.specs.declared.ExplicitCicp.TheVariants as cicp-is
 use Rattle.mini.specs.declared.MinimizedImage.{MinimizedImage}
-use Rattle.mini.specs.declared.Reading.{Reading}
 
 -- what a line calls, and what it says comes back
 pub data Call : Type 0 where
@@ -82,15 +78,15 @@ smallest =
       refusal = 0;
       image =
           record {
-            explicit_codec_types = types_are.Absent;
+            explicit_codec_types = None;
             format = Integer 8;
             full_range = false;
             chroma = record { subsampling = 0; horizontally_centered = false; vertically_centered = false };
             orientation = 1;
             width = 1;
             height = 1;
-            explicit_cicp = cicp-is.Absent;
-            icc = Absent;
+            explicit_cicp = None;
+            icc = None;
             alpha = false;
             alpha_premultiplied = false;
             hdr = false;
@@ -99,11 +95,11 @@ smallest =
             gain_map = blank_gain_map;
             main_codec_config = record { at = 7; len = 0 };
             main_data = record { at = 7; len = 1 };
-            alpha_codec_config = Absent;
+            alpha_codec_config = None;
             alpha_data = record { at = 7; len = 0 };
             exif_xmp_compressed = false;
-            exif = Absent;
-            xmp = Absent;
+            exif = None;
+            xmp = None;
           };
     })
 

@@ -1,51 +1,48 @@
 // The corner cases of src/boxes.rs: sizes, largesizes and extended types at their least, payloads, and boxes written.
 ghost use Rattle.std.specs.Prelude.{◌≡◌, ◌≤◌, length};
 
-use crate::print::{print, print_number};
-use boxes::{BoxHeader, UserType, parse_box_header};
+use boxes::{BoxHeader, parse_box_header};
 use std::io;
+use std::io::Write;
 
-fn header(rt: &impl Print, label: &[u8], buf: &[u8], start: usize) -> io::Result<()> {
-    let r = parse_box_header(buf, start);
-    let refusal = r.refusal;
-    let h = r.header;
-    print(rt, label)?;
-    print_number(rt, b": refusal ", refusal as usize)?;
-    print_number(rt, b", payload at ", h.payload_start)?;
-    print_number(rt, b", bytes ", h.payload_len)?;
-    print(rt, b"\n")
+fn header(rt: &impl Print, label: &str, buf: &[u8], start: usize) -> io::Result<()> {
+    let (refusal, at, len) = match parse_box_header(buf, start) {
+        Ok(header) => (0, header.payload_start, header.payload_len),
+        Err(error) => (error.number(), 0, 0),
+    };
+    println!(rt; "{label}: refusal {refusal}, payload at {at}, bytes {len}")
 }
 
 // Sizes.
 pub fn sizes(rt: &impl Print) -> io::Result<()> {
-    header(rt, b"size 8", b"\x00\x00\x00\x08free", 0)?;
-    header(rt, b"size 7", b"\x00\x00\x00\x07free", 0)?;
+    header(rt, "size 8", b"\x00\x00\x00\x08free", 0)?;
+    header(rt, "size 7", b"\x00\x00\x00\x07free", 0)?;
     header(
         rt,
-        b"size 0, three bytes after",
+        "size 0, three bytes after",
         b"\x00\x00\x00\x00freeabc",
         0,
     )?;
-    header(rt, b"size 9, eight bytes there", b"\x00\x00\x00\x09free", 0)
+    header(rt, "size 9, eight bytes there", b"\x00\x00\x00\x09free", 0)
 }
 
 // Largesizes.
 pub fn largesizes(rt: &impl Print) -> io::Result<()> {
     header(
         rt,
-        b"size 1, fifteen bytes there",
+        "size 1, fifteen bytes there",
         b"\x00\x00\x00\x01free\x00\x00\x00\x00\x00\x00\x00",
         0,
     )?;
     header(
         rt,
-        b"largesize 16",
+        "largesize 16",
         b"\x00\x00\x00\x01free\x00\x00\x00\x00\x00\x00\x00\x10",
         0,
     )?;
     header(
         rt,
-        b"largesize 15",
+        "largesize 15",
         b"\x00\x00\x00\x01free\x00\x00\x00\x00\x00\x00\x00\x0f",
         0,
     )
@@ -55,25 +52,25 @@ pub fn largesizes(rt: &impl Print) -> io::Result<()> {
 pub fn extended_types(rt: &impl Print) -> io::Result<()> {
     header(
         rt,
-        b"uuid, size 24",
+        "uuid, size 24",
         b"\x00\x00\x00\x18uuid0123456789abcdef",
         0,
     )?;
     header(
         rt,
-        b"uuid, size 23",
+        "uuid, size 23",
         b"\x00\x00\x00\x17uuid0123456789abcdef",
         0,
     )?;
     header(
         rt,
-        b"uuid, largesize 32",
+        "uuid, largesize 32",
         b"\x00\x00\x00\x01uuid\x00\x00\x00\x00\x00\x00\x00\x200123456789abcdef",
         0,
     )?;
     header(
         rt,
-        b"uuid, largesize 31",
+        "uuid, largesize 31",
         b"\x00\x00\x00\x01uuid\x00\x00\x00\x00\x00\x00\x00\x1f0123456789abcdef",
         0,
     )
@@ -81,46 +78,45 @@ pub fn extended_types(rt: &impl Print) -> io::Result<()> {
 
 // Starts.
 pub fn starts(rt: &impl Print) -> io::Result<()> {
-    header(rt, b"seven bytes", b"\x00\x00\x00\x07fre", 0)?;
+    header(rt, "seven bytes", b"\x00\x00\x00\x07fre", 0)?;
     header(
         rt,
-        b"second box",
+        "second box",
         b"\x00\x00\x00\x08free\x00\x00\x00\x09skipx",
         8,
     )?;
-    header(rt, b"start at the end", b"\x00\x00\x00\x08free", 8)?;
-    header(rt, b"start past the end", b"\x00\x00\x00\x08free", 9)?;
+    header(rt, "start at the end", b"\x00\x00\x00\x08free", 8)?;
+    header(rt, "start past the end", b"\x00\x00\x00\x08free", 9)?;
     header(
         rt,
-        b"largest start",
+        "largest start",
         b"\x00\x00\x00\x08free",
         18446744073709551615,
     )
 }
 
-fn span(rt: &impl Print, label: &[u8], buf: &[u8], at: usize, len: usize) -> io::Result<()> {
-    let h = BoxHeader {
+fn span(rt: &impl Print, label: &str, buf: &[u8], at: usize, len: usize) -> io::Result<()> {
+    let header = BoxHeader {
         box_type: 0,
-        user_type: UserType::Absent,
+        user_type: None,
         start: 0,
         payload_start: at,
         payload_len: len,
     };
-    print(rt, label)?;
-    print(rt, b": [")?;
-    print(rt, boxes::payload(buf, h))?;
-    print(rt, b"]\n")
+    print!(rt; "{label}: [")?;
+    io::writer(rt).write_all(boxes::payload(buf, header))?;
+    println!(rt; "]")
 }
 
 // Payloads of headers that lie in their buffer, end at its end, and pass it.
 pub fn hand_out(rt: &impl Print) -> io::Result<()> {
-    span(rt, b"payload 1 + 2 of 4", b"abcd", 1, 2)?;
-    span(rt, b"payload 4 + 0 of 4", b"abcd", 4, 0)?;
-    span(rt, b"payload 1 + 4 of 4", b"abcd", 1, 4)?;
-    span(rt, b"payload 5 + 0 of 4", b"abcd", 5, 0)?;
+    span(rt, "payload 1 + 2 of 4", b"abcd", 1, 2)?;
+    span(rt, "payload 4 + 0 of 4", b"abcd", 4, 0)?;
+    span(rt, "payload 1 + 4 of 4", b"abcd", 1, 4)?;
+    span(rt, "payload 5 + 0 of 4", b"abcd", 5, 0)?;
     span(
         rt,
-        b"payload past the largest usize",
+        "payload past the largest usize",
         b"abcd",
         18446744073709551615,
         2,
@@ -133,7 +129,7 @@ fn body(out: &mut [u8]) -> usize
     ensures { result ≡ 6 }
 {
     let a = boxes::put_full_box_header(out, 0, 1, 0x626364);
-    octets::put_u16(out, a, 0x6566)
+    octets::put::<2>(out, a, 0x6566)
 }
 
 // A full box after one byte, its body first and then its header, and an empty box after that.
@@ -145,20 +141,13 @@ fn put_boxes(out: &mut [u8]) -> usize
     boxes::put_box_header(out, a, 0, 0x66726565)
 }
 
-fn print_bytes(rt: &impl Print, s: &[u8]) -> io::Result<()> {
-    let mut i = 0;
-    while i < s.len() {
-        print!(rt; "{:02x} ", s[i])?;
-        i += 1;
-    }
-    print(rt, b"\n")
-}
-
 // Boxes written into an output of dots.
 pub fn write(rt: &impl Print) -> io::Result<()> {
     let mut out = [b'.'; 24];
     let end = put_boxes(&mut out);
-    print_number(rt, b"boxes written up to ", end)?;
-    print(rt, b"\n")?;
-    print_bytes(rt, &out)
+    println!(rt; "boxes written up to {end}")?;
+    for byte in out {
+        print!(rt; "{byte:02x} ")?;
+    }
+    println!(rt; "")
 }

@@ -3,7 +3,6 @@
 
 mod boxes_rs;
 mod limits;
-mod print;
 
 use std::io;
 

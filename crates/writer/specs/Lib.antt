@@ -1,4 +1,5 @@
 pub mod Laid
 pub mod Needed
+pub mod Outcome
 pub mod Place
 pub mod ToBox

@@ -1,5 +1,5 @@
 -- The length that a box needs, and the ways through the answer of writing. Assumes nothing.
-use Rattle.std.specs.Prelude.{◌≡◌, ℕ, ◌+◌, ◌-◌, ◌^◌, ◌<◌, ◌≤◌, Bool, false, cond, T, List, ◌++◌, length, take, drop, nat_lt}
+use Rattle.std.specs.Prelude.{◌≡◌, ℕ, ◌+◌, ◌-◌, ◌^◌, ◌<◌, ◌≤◌, Bool, false, cond, T, List, ◌++◌, length, take, drop, nat_lt, Option, Some, None}
 use Rattle.std.proofs.Common.{sym, ap, ap₂, ◌∙◌, subst, arith, length-append, length-take, lt-ltb, le-ltb}
 use Rattle.octets.specs.Overwrite.{overwrite, Wrote}
 use Rattle.octets.specs.OverwriteLaws.{overwrite_before, overwrite-append, length-overwrite}
@@ -13,20 +13,19 @@ use Rattle.mini.specs.Payload.{header_bits, chunks_start, header_padded}
 use Rattle.mini.specs.Same.{chunk_len, chunk_bytes, chunks_of}
 use Rattle.mini.specs.Syntax.{header}
 use Rattle.mini.specs.Write.{header_of, payload_of, payload_with, writable}
-use Rattle.mini.specs.declared.Chunk.{Chunk}
-use Rattle.mini.specs.declared.Chunk.TheVariants.{Absent, Present}
+use Rattle.mini.specs.declared.Span.{Span}
 use Rattle.mini.specs.declared.Header.{Header}
 use Rattle.mini.specs.declared.MinimizedImage.{MinimizedImage}
 use Rattle.writer.specs.Laid.{Laid}
 use Rattle.writer.specs.ToBox.{box_of, refused, written, HeaderHeld}
-use Rattle.writer.specs.declared.Written.{Written}
+use Rattle.writer.specs.Outcome.{Written}
 
 take-le : (n : ℕ) (l : List ℕ) → length (take n l) ≤ n
 take-le n l = simp length-take (omega arith)
 
-chunk_le : (c : Chunk) (s : List ℕ) → length (chunk_bytes c s) ≤ chunk_len c
-chunk_le Absent s = omega arith
-chunk_le (Present p n) s = take-le n (drop p s)
+chunk_le : (c : Option Span) (s : List ℕ) → length (chunk_bytes c s) ≤ chunk_len c
+chunk_le None s = omega arith
+chunk_le (Some x) s = take-le x.len (drop x.at s)
 
 chunks_small : (i : MinimizedImage) (s : List ℕ) → T (writable i) → length (joined (chunks_of i s)) ≤ 2952790016
 unfolding chunks_of

@@ -1,5 +1,5 @@
 -- Writing a record as a 'mini' box: document 01, 'src/mini.rs, writing' and 'What goes back when it cannot be done', 10, 11 and 16.
-use Rattle.std.specs.Prelude.{◌≡◌, ℕ, ◌+◌, ◌-◌, ◌*◌, ◌%◌, ◌^◌, ◌≤◌, Bool, true, false, cond, not, ◌&&◌, T, List, [], ◌++◌, length, take, ◌==◌, nat_eq, nat_lt, refl}
+use Rattle.std.specs.Prelude.{◌≡◌, ℕ, ◌+◌, ◌-◌, ◌*◌, ◌%◌, ◌^◌, ◌≤◌, Bool, true, false, cond, not, ◌&&◌, T, List, [], ◌++◌, length, take, nat_lt, refl}
 use Rattle.std.proofs.Math.Path.{sym}
 use Rattle.std.proofs.Common.{ap, ap₂, ◌∙◌, subst, arith, pow_pos}
 use borrow.Author.Tests.{lt-ltb, not-true, not-false}
@@ -20,7 +20,7 @@ use Rattle.mini.specs.Syntax.{header, trailing_bits}
 use Rattle.mini.specs.Write.{header_of, payload_of, writable, not_empty}
 use Rattle.mini.specs.declared.Header.{Header}
 use Rattle.mini.specs.declared.MinimizedImage.{MinimizedImage}
-use Rattle.writer.specs.declared.Written.{Written}
+use Rattle.writer.specs.Outcome.{Written}
 
 -- the box: type 'mini', and the payload
 unfoldable pub box_of : MinimizedImage → List ℕ → List ℕ
@@ -46,8 +46,8 @@ pub record HeaderHeld (h : Header) (bytes : List ℕ) (len : ℕ) : Type 0 where
   pub small : len ≤ 251
   pub there : take len bytes ≡ bytes_of (chunks_start h) (header_bits h)
 
-pub record HeaderIn (h : Header) (bytes : List ℕ) (len fault : ℕ) : Type 0 where
-  pub ok : nat_eq fault 0 ≡ header.good h
+pub record HeaderIn (h : Header) (bytes : List ℕ) (len : ℕ) (all_fit : Bool) : Type 0 where
+  pub ok : all_fit ≡ header.good h
   pub held : header.Good h → HeaderHeld h bytes len
 
 header_held : (h : Header) (z o₁ o₂ : List ℕ) (w w₁ w₂ : BitWriter) → length z ≡ 256 → place w ≡ 0 → waiting w ≡ []
@@ -86,7 +86,7 @@ and-true false = refl
 
 pub header_in : {h' : Header} (h : Header) (z : List ℕ) {o₁ o₂ : List ℕ} {w w₁ w₂ : BitWriter} → h' ≡ h → length z ≡ 256
     → (place w ≡ 0) × (waiting w ≡ []) × (fits w ≡ true)
-    → Puts header z w h' o₁ w₁ → Puts (field ((8 - w₁.at.1 % 8) % 8)) o₁ w₁ 0 o₂ w₂ → HeaderIn h o₂ (place w₂) w₂.fault
+    → Puts header z w h' o₁ w₁ → Puts (field ((8 - w₁.at.1 % 8) % 8)) o₁ w₁ 0 o₂ w₂ → HeaderIn h o₂ (place w₂) (fits w₂)
 header_in {h'} h z {o₁} {o₂} {w} {w₁} {w₂} eh lz e p' q =
     let p = subst (λ (x : Header). Puts header z w x o₁ w₁) eh p' in
     let m = (8 - w₁.at.1 % 8) % 8 in
@@ -103,8 +103,8 @@ pub record HeaderOf (i : MinimizedImage) (bytes : List ℕ) (len : ℕ) (t : Boo
   pub ok : t ≡ writable i
   pub held : T (writable i) → HeaderHeld (header_of i) bytes len
 
-pub header_of_lem : (i : MinimizedImage) {bytes : List ℕ} {len fault : ℕ} {a g full t : Bool} → HeaderIn (header_of i) bytes len fault
-    → a ≡ not_empty i.alpha_codec_config → g ≡ not_empty i.gain_map.codec_config → full ≡ (a && g) → t ≡ (fault == 0 && full)
+pub header_of_lem : (i : MinimizedImage) {bytes : List ℕ} {len : ℕ} {all_fit a g full t : Bool} → HeaderIn (header_of i) bytes len all_fit
+    → a ≡ not_empty i.alpha_codec_config → g ≡ not_empty i.gain_map.codec_config → full ≡ (a && g) → t ≡ (all_fit && full)
     → HeaderOf i bytes len t
 unfolding writable
 header_of_lem i h ea eg ef et =

@@ -10,41 +10,28 @@ use mini::{Chunk, MinimizedImage, Span};
 fn held(total: usize, at: usize, len: usize) -> usize
     ensures { result ≡ min len (total - at) }
 {
-    if total <= at {
-        return 0;
-    }
-    let rest = total - at;
-    if len <= rest {
-        return len;
-    }
-    rest
+    len.min(total.saturating_sub(at))
 }
 
 // The bytes of a span where there is room for them; and the place after them.
 fn put_span(out: &mut [u8], at: usize, source: &[u8], x: Span) -> usize
     ensures { Laid out.old at (span_bytes x source.now) out.new result }
 {
-    let from = x.at;
-    let n = held(source.len(), from, x.len);
-    let end = std::num::wrapping_add_usize(at, n);
-    if out.len() < at {
-        return end;
+    let n = held(source.len(), x.at, x.len);
+    if at <= out.len() && n <= out.len() - at {
+        octets::copy_in(out, at, octets::part(source, x.at, n));
     }
-    if out.len() - at < n {
-        return end;
-    }
-    octets::copy_in(out, at, octets::part(source, from, n));
-    end
+    at.wrapping_add(n)
 }
 
-// An absent chunk is passed over.
-fn put_chunk(out: &mut [u8], cursor: usize, source: &[u8], c: Chunk) -> usize
-    ensures { Laid out.old cursor (chunk_bytes c source.now) out.new result }
+// An absent chunk is passed over. As in the expander, but for what a span leaves where there is no room (`Laid`).
+fn put_chunk(out: &mut [u8], at: usize, source: &[u8], c: Chunk) -> usize
+    ensures { Laid out.old at (chunk_bytes c source.now) out.new result }
 {
-    let Chunk::Present { at, len } = c else {
-        return cursor;
+    let Some(span) = c else {
+        return at;
     };
-    put_span(out, cursor, source, Span { at, len })
+    put_span(out, at, source, span)
 }
 
 // All chunks, from a place on.
@@ -52,26 +39,15 @@ pub fn put_chunks(out: &mut [u8], at: usize, source: &[u8], i: MinimizedImage) -
     ensures { Laid out.old at (joined (chunks_of i source.now)) out.new result }
 {
     let g = i.gain_map;
-    let main_config = i.main_codec_config;
-    let at1 = put_span(out, at, source, main_config);
-    let alpha_config = i.alpha_codec_config;
-    let at2 = put_chunk(out, at1, source, alpha_config);
-    let gain_map_config = g.codec_config;
-    let at3 = put_chunk(out, at2, source, gain_map_config);
-    let icc = i.icc;
-    let at4 = put_chunk(out, at3, source, icc);
-    let tmap_icc = g.tmap_icc;
-    let at5 = put_chunk(out, at4, source, tmap_icc);
-    let metadata = g.metadata;
-    let at6 = put_span(out, at5, source, metadata);
-    let alpha_data = i.alpha_data;
-    let at7 = put_span(out, at6, source, alpha_data);
-    let gain_map_data = g.data;
-    let at8 = put_span(out, at7, source, gain_map_data);
-    let main_data = i.main_data;
-    let at9 = put_span(out, at8, source, main_data);
-    let exif = i.exif;
-    let at10 = put_chunk(out, at9, source, exif);
-    let xmp = i.xmp;
-    put_chunk(out, at10, source, xmp)
+    let at = put_span(out, at, source, i.main_codec_config);
+    let at = put_chunk(out, at, source, i.alpha_codec_config);
+    let at = put_chunk(out, at, source, g.codec_config);
+    let at = put_chunk(out, at, source, i.icc);
+    let at = put_chunk(out, at, source, g.tmap_icc);
+    let at = put_span(out, at, source, g.metadata);
+    let at = put_span(out, at, source, i.alpha_data);
+    let at = put_span(out, at, source, g.data);
+    let at = put_span(out, at, source, i.main_data);
+    let at = put_chunk(out, at, source, i.exif);
+    put_chunk(out, at, source, i.xmp)
 }

@@ -3,13 +3,13 @@
 
 ghost use Rattle.std.specs.Prelude.{◌≡◌, T};
 ghost use Rattle.mini.specs.Write.{header_of, writable};
+ghost use Rattle.writer.specs.Outcome.{number, needed_in, outcome_of};
 ghost use Rattle.writer.specs.ToBox.{HeaderHeld, HeaderOf, written, answer};
 
 pub mod checks;
 pub mod chunks;
 
 use bit_writer::BitWriter;
-use bits::both;
 use boxes::FourCc;
 use header_writer::header::put_header;
 use mini::MinimizedImage;
@@ -17,14 +17,39 @@ use record_header::{header_of, not_empty};
 
 const MINI: FourCc = 0x6D696E69;
 
-// What writing answers: 0 or the refusal's number, and the length written; the length needed with 16, else 0.
-#[derive(Clone, Copy)]
-pub struct Written {
-    pub refusal: usize,
-    pub len: usize,
+// Refusals 10, 11 and 16, the last with the length that the box needs.
+#[derive(Clone, Copy, Debug, PartialEq, Eq)]
+pub enum WriteError {
+    Misplaced,
+    Unwritable,
+    TooShort { needed: usize },
 }
 
-// A record's header: its bytes, how many they are, and whether a payload holds the record at all (refusal 11).
+impl WriteError {
+    // The number of the refusal.
+    pub fn number(self) -> u8
+        ensures { result ≡ number self }
+    {
+        match self {
+            WriteError::Misplaced => 10,
+            WriteError::Unwritable => 11,
+            WriteError::TooShort { .. } => 16,
+        }
+    }
+
+    // The length that comes with it: the one needed, else 0.
+    pub fn needed(self) -> usize
+        ensures { result ≡ needed_in self }
+    {
+        match self {
+            WriteError::TooShort { needed } => needed,
+            _ => 0,
+        }
+    }
+}
+
+// A record's header: its bytes, how many they are, and whether a payload holds the record at all (refusal 11). A length beside a buffer,
+// since the memory is fixed.
 #[derive(Clone, Copy)]
 pub struct HeaderBytes {
     pub bytes: [u8; 256],
@@ -35,21 +60,13 @@ pub struct HeaderBytes {
 fn header_bytes(i: MinimizedImage) -> HeaderBytes
     ensures { HeaderOf i result.bytes result.len result.writable }
 {
-    let h = header_of(i);
     let mut bytes = [0u8; 256];
-    let w = BitWriter::new(0);
-    let w1 = put_header(w, &mut bytes, h);
-    let w2 = w1.align(&mut bytes);
-    let len = w2.at.0;
-    let alpha = i.alpha_codec_config;
-    let g = i.gain_map;
-    let config = g.codec_config;
-    let full = both(not_empty(alpha), not_empty(config));
-    let writable = both(w2.fault == 0, full);
+    let w = put_header(BitWriter::new(0), &mut bytes, header_of(i)).align(&mut bytes);
+    let full = not_empty(i.alpha_codec_config) & not_empty(i.gain_map.codec_config);
     HeaderBytes {
         bytes,
-        len,
-        writable,
+        len: w.at.0,
+        writable: w.fits & full,
     }
 }
 
@@ -57,50 +74,40 @@ fn header_bytes(i: MinimizedImage) -> HeaderBytes
 pub fn is_writable(image: MinimizedImage) -> bool
     ensures { result ≡ writable image }
 {
-    let h = header_bytes(image);
-    h.writable
+    header_bytes(image).writable
 }
 
-// The box of a record that can be written; 16 where the output is too short. The chunks laid over no output tell the length.
-fn write_box(i: MinimizedImage, source: &[u8], out: &mut [u8], h: HeaderBytes) -> Written
+// The box of a record that can be written, and its length. The chunks laid over no output tell the length.
+fn write_box(
+    i: MinimizedImage,
+    source: &[u8],
+    out: &mut [u8],
+    h: HeaderBytes,
+) -> Result<usize, WriteError>
     requires { T (writable i) × HeaderHeld (header_of i) h.bytes h.len }
-    ensures { (result, out.new) ≡ written i source.now out.old }
+    ensures { (outcome_of result, out.new) ≡ written i source.now out.old }
 {
-    let len = h.len;
     let mut none = [0u8; 1];
-    let needed = chunks::put_chunks(&mut none, 8 + len, source, i);
+    let needed = chunks::put_chunks(&mut none, 8 + h.len, source, i);
     if out.len() < needed {
-        return Written {
-            refusal: 16,
-            len: needed,
-        };
+        return Err(WriteError::TooShort { needed });
     }
-    let bytes = h.bytes;
-    let at = octets::copy_in(out, 8, &bytes[0..len]);
+    let at = octets::copy_in(out, 8, &h.bytes[0..h.len]);
     chunks::put_chunks(out, at, source, i);
     boxes::put_box_header(out, 0, needed - 8, MINI);
-    Written {
-        refusal: 0,
-        len: needed,
-    }
+    Ok(needed)
 }
 
-// The box of a record whose chunks lie in `source`, from the output's first byte on.
-pub fn to_box(image: MinimizedImage, source: &[u8], out: &mut [u8]) -> Written
-    ensures { (result, out.new) ≡ answer image source.now out.old }
+// The box of a record whose chunks lie in `source`, from the output's first byte on; its length.
+pub fn to_box(image: MinimizedImage, source: &[u8], out: &mut [u8]) -> Result<usize, WriteError>
+    ensures { (outcome_of result, out.new) ≡ answer image source.now out.old }
 {
     if !checks::well_placed(image, source) {
-        return Written {
-            refusal: 10,
-            len: 0,
-        };
+        return Err(WriteError::Misplaced);
     }
     let h = header_bytes(image);
     if !h.writable {
-        return Written {
-            refusal: 11,
-            len: 0,
-        };
+        return Err(WriteError::Unwritable);
     }
     write_box(image, source, out, h)
 }

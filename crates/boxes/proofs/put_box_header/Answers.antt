@@ -5,4 +5,4 @@ use Rattle.boxes.proofs.put_box_header.Goals as goal
 
 pub returns : goal.returns
 unfolding box_header
-returns c = record { next = search rules; left = (then c.put_u32-after.ensures c.put_u32.ensures).left }
+returns c = record { next = search rules; left = (then c.put-after.ensures c.put.ensures).left }

@@ -1,13 +1,12 @@
-use Rattle.std.proofs.Common.{arith}
+use Rattle.std.proofs.Common.{ap, refl, rules, ℕ, ◌∙◌}
+use Rattle.boxes.specs.Header.{number_not_zero}
 use Rattle.layout.specs.HeaderBytes.{length-header_bytes}
-use Rattle.exports.specs.AnswerLaws.{refuses, lacks_room, hands_out}
+use Rattle.exports.specs.Answer.{packed}
+use Rattle.exports.specs.AnswerLaws.{refuses, handed_out}
 use Rattle.exports.proofs.answer_header.Goals as goal
 
-pub returns-then-refusal-ne0 : goal.returns-then-refusal-ne0
-returns-then-refusal-ne0 c = refuses (λ e. omega arith) c.refused.ensures
+pub returns-in-Ok : goal.returns-in-Ok
+returns-in-Ok c = rw c.in-Ok.is (handed_out refl (length-header_bytes _) c.hand_out.ensures.short (λ h. search rules))
 
-pub returns-then-out-lt45 : goal.returns-then-out-lt45
-returns-then-out-lt45 c = lacks_room (omega arith) (length-header_bytes _) (omega arith) c.too_short.ensures
-
-pub returns : goal.returns
-returns c = hands_out (omega arith) c.put_header.ensures (omega arith)
+pub returns-in-Err : goal.returns-in-Err
+returns-in-Err c = rw c.in-Err.is (refuses (number_not_zero _) (c.refused.ensures ∙ ap (λ (k : ℕ). packed k 0) c.number.ensures))

@@ -1,14 +1,13 @@
-use Rattle.std.proofs.Common.{arith}
+use Rattle.std.proofs.Common.{ap, refl, rules, ℕ, ◌∙◌}
+use Rattle.bits.specs.ReadError.{number_not_zero}
 use Rattle.layout.specs.CheckBytes.{length-check_bytes}
-use Rattle.exports.specs.AnswerLaws.{refuses, lacks_room, hands_out}
+use Rattle.exports.specs.Answer.{packed}
+use Rattle.exports.specs.AnswerLaws.{refuses, handed_out}
 use Rattle.exports.proofs.bustardcase_check.Goals as goal
 
-pub returns-then-refusal-ne0 : goal.returns-then-refusal-ne0
-returns-then-refusal-ne0 c = rw (← c.parse-reading.ensures) (refuses (λ e. omega arith) c.refused.ensures)
+pub returns-in-Ok : goal.returns-in-Ok
+returns-in-Ok c = rw (← c.parse.ensures, c.in-Ok.is) (handed_out refl (length-check_bytes _) c.hand_out.ensures.short (λ h. search rules))
 
-pub returns-then-out-lt14 : goal.returns-then-out-lt14
-returns-then-out-lt14 c =
-    rw (← c.parse-reading.ensures) (lacks_room (omega arith) (length-check_bytes _) (omega arith) c.too_short.ensures)
-
-pub returns : goal.returns
-returns c = rw (← c.parse-reading.ensures) (hands_out (omega arith) c.put_check.ensures (omega arith))
+pub returns-in-Err : goal.returns-in-Err
+returns-in-Err c =
+    rw (← c.parse.ensures, c.in-Err.is) (refuses (number_not_zero _) (c.refused.ensures ∙ ap (λ (k : ℕ). packed k 0) c.number.ensures))

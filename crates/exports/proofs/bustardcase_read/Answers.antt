@@ -1,14 +1,12 @@
-use Rattle.std.proofs.Common.{arith, sym}
-use Rattle.exports.specs.AnswerLaws.{refuses, lacks_room, hands_out}
+use Rattle.std.proofs.Common.{ap, refl, rules, sym, ℕ, ◌∙◌}
+use Rattle.bits.specs.ReadError.{number_not_zero}
+use Rattle.exports.specs.Answer.{packed}
+use Rattle.exports.specs.AnswerLaws.{refuses, handed_out}
 use Rattle.exports.proofs.bustardcase_read.Goals as goal
 
-pub returns-then-refusal-ne0 : goal.returns-then-refusal-ne0
-returns-then-refusal-ne0 c = rw (← c.parse-reading.ensures) (refuses (λ e. omega arith) c.refused.ensures)
+pub returns-in-Ok : goal.returns-in-Ok
+returns-in-Ok c = rw (← c.parse.ensures, c.in-Ok.is) (handed_out refl (sym c.record_len.ensures.0) c.hand_out.ensures.short (λ h. search rules))
 
-pub returns-then-out-needed : goal.returns-then-out-needed
-returns-then-out-needed c =
-    rw (← c.parse-reading.ensures) (lacks_room (omega arith) (sym c.record_len-needed.ensures.0) (omega arith) c.too_short.ensures)
-
-pub returns : goal.returns
-returns c =
-    rw (← c.parse-reading.ensures, c.record_len-needed.ensures.1) (hands_out (omega arith) c.put_record.ensures (omega arith))
+pub returns-in-Err : goal.returns-in-Err
+returns-in-Err c =
+    rw (← c.parse.ensures, c.in-Err.is) (refuses (number_not_zero _) (c.refused.ensures ∙ ap (λ (k : ℕ). packed k 0) c.number.ensures))

@@ -1,18 +1,16 @@
 -- `exports_outline::bustardcase_outline` meets its contract. Assumes nothing.
-use Rattle.std.proofs.Common.{arith}
+use Rattle.std.proofs.Common.{ap, refl, rules, ℕ, ◌∙◌}
+use Rattle.bits.specs.ReadError.{number_not_zero}
 use Rattle.outline.specs.OutlineBytes.{outline_bytes, length_outline}
-use Rattle.exports.specs.AnswerLaws.{refuses, lacks_room, hands_out}
+use Rattle.exports.specs.Answer.{packed}
+use Rattle.exports.specs.AnswerLaws.{refuses, handed_out}
 use Rattle.exports_outline.proofs.bustardcase_outline.Goals as goal
 
-pub returns-then-refusal-ne0 : goal.returns-then-refusal-ne0
+pub returns-in-Ok : goal.returns-in-Ok
 unfolding outline_bytes
-returns-then-refusal-ne0 c = rw (← c.parse-reading.ensures) (refuses (λ e. omega arith) c.refused.ensures)
+returns-in-Ok c = rw (← c.parse.ensures, c.in-Ok.is) (handed_out refl (length_outline _ _) c.hand_out.ensures.short (λ h. search rules))
 
-pub returns-then-out-lt500 : goal.returns-then-out-lt500
+pub returns-in-Err : goal.returns-in-Err
 unfolding outline_bytes
-returns-then-out-lt500 c =
-    rw (← c.parse-reading.ensures) (lacks_room (omega arith) (length_outline _ _) (omega arith) c.too_short.ensures)
-
-pub returns : goal.returns
-unfolding outline_bytes
-returns c = rw (← c.parse-reading.ensures) (hands_out (omega arith) c.put_outline.ensures (omega arith))
+returns-in-Err c =
+    rw (← c.parse.ensures, c.in-Err.is) (refuses (number_not_zero _) (c.refused.ensures ∙ ap (λ (k : ℕ). packed k 0) c.number.ensures))

@@ -3,4 +3,4 @@ use Rattle.header_reader.proofs.read_present_hdr_part.Goals as goal
 
 pub returns : goal.returns
 returns c =
-    run_seq _ _ c.read_gain_map_header-g.ensures (run_seq _ _ c.read_hdr_boxes-h.ensures c.read_hdr_boxes_if-t.ensures)
+    run_seq _ _ c.read_gain_map_header.ensures (run_seq _ _ c.read_hdr_boxes.ensures c.read_hdr_boxes_if.ensures)

@@ -9,4 +9,4 @@ use Rattle.outline.proofs.put_outline.Goals as goal
 pub returns : goal.returns
 unfolding outline_of ignored
 returns c =
-    then (then (then (recast c.put_ends-a.ensures (ap place_bytes c.read_ends-e.ensures)) c.put_given-b.ensures) c.put_stored-c.ensures) (recast c.put_u64.ensures (ap (be 8) c.ignored-ignored.ensures))
+    then (then (then (recast c.put_ends-at.ensures (ap place_bytes c.read_ends.ensures)) c.put_given-at.ensures) c.put_stored-at.ensures) (recast c.put.ensures (ap (be 8) c.ignored.ensures))

@@ -1,10 +1,10 @@
 -- `writer::header_bytes` meets its contract. Assumes nothing.
-use Rattle.std.proofs.Common.{rules}
+use Rattle.std.proofs.Common.{refl, rules}
 use Rattle.writer.specs.ToBox.{header_in, header_of_lem}
 use Rattle.writer.proofs.header_bytes.Goals as goal
 
 pub returns : goal.returns
 returns c =
     header_of_lem _
-    (header_in _ _ c.header_of-h.ensures (search rules) c.new-w.ensures c.put_header-w1.ensures c.align-w2.ensures)
-    c.not_empty.ensures c.not_empty-2.ensures c.both-full.ensures c.both-writable.ensures
+    (header_in _ _ c.header_of.ensures (search rules) c.new.ensures c.put_header.ensures c.align-w.ensures)
+    c.not_empty.ensures c.not_empty-2.ensures refl refl

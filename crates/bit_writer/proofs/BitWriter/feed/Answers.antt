@@ -1,5 +1,5 @@
 -- `bit_writer::BitWriter::feed` meets its contract. The invariant: what is still to be fed leads to the same end. Assumes nothing.
-use Rattle.std.proofs.Common.{Bool, List, ap, ap₂, arith, length, mod-eq_of_lt, refl, rules, sym, ℕ, ◌-◌, ◌<◌, ◌∙◌}
+use Rattle.std.proofs.Common.{Bool, List, ap, arith, ◌+◌, ◌%◌, ◌^◌, length, mod-eq_of_lt, refl, rules, sym, ℕ, ◌-◌, ◌<◌, ◌∙◌}
 use Rattle.bits.specs.Bit.{bits_n, length-bits_n}
 use Rattle.bit_writer.specs.Writer.{feed, waiting}
 use Rattle.bit_writer.specs.WriterLaws.{feed_octet, feed_few}
@@ -14,7 +14,7 @@ loop-m-preserved c =
     let t = c.loop-m-test.true in (
       omega arith,
       search rules,
-      ap₂ (λ (o : List ℕ) (k : ℕ). feed o k (bits_n (c.loop-m.m - 8) all)) c.store.ensures c.wrapping_add_usize-k.ensures.value
+      ap (λ (o : List ℕ). feed o ((c.loop-m.k + 1) % 2 ^ 64) (bits_n (c.loop-m.m - 8) all)) c.store.ensures
           ∙ sym (feed_octet c.loop-m.out c.loop-m.k c.loop-m.m (c.loop-m.m - 8) all (omega arith))
           ∙ c.loop-m.invariant.2,
     )

@@ -2,4 +2,4 @@
 use Rattle.bit_writer.proofs.BitWriter.size_if.Goals as goal
 
 pub returns : goal.returns
-returns c = rw c.width-n.ensures.0 at c.put_if.ensures
+returns c = rw c.of.ensures.0 at c.put_if.ensures

@@ -1,108 +1,57 @@
-use Rattle.std.proofs.Common.{ap, arith, sym, ℕ, ◌+◌, ◌∙◌, ◌≡◌}
+use Rattle.std.proofs.Common.{ap, arith, rules, sym, Err, refl, ◌∙◌, ◌≡◌}
 use Rattle.ftyp.specs.FileType.{file_type_len}
 use Rattle.ftyp.specs.declared.FileType.{FileType}
-use Rattle.items.specs.ItemLocations.{data_len}
-use Rattle.expander.specs.EquivalentFile.{file_len, content_start}
+use Rattle.writer.specs.Outcome.{Written}
 use Rattle.expander.specs.Placed.{fit, content_most}
 use Rattle.expander.specs.Expands.{expands}
-use Rattle.writer.specs.ToBox.{refused}
-use Rattle.expander.specs.OutcomeLaws.{expand-refused, expand-short, expand-done}
-use Rattle.expander.specs.ExpandedLaws.{promised}
+use Rattle.expander.specs.ExpandedLaws.{promised, refusal_most}
+use Rattle.expander.specs.Outcome.{number_not_zero}
+use Rattle.expander.specs.OutcomeLaws.{refused_of, expand-refused, expand-short, expand-done}
 use Rattle.expander.proofs.entry.equivalent_file.Goals as goal
 
-pub returns-then-refusal-ne0 : goal.returns-then-refusal-ne0
-returns-then-refusal-ne0 c =
-    let s = c.args.source.now in
-    let b = c.args.brands.now in
-    let o = c.args.out.now in
-    let e = c.refusal_of-refusal.ensures.value in
-    let all = promised c.args.image s c.args.major c.args.minor b o
-    (ap (λ (k : ℕ). refused k 0 o) e ∙ expand-refused c.args.image s c.args.major c.args.minor b o (λ z. c.if-refusal-ne0.true (e ∙ z))) in
-    record { answer = all.0; every_byte = all.1.0; bounds = all.1.1 }
+pub returns-in_err-plan : goal.returns-in_err-plan
+returns-in_err-plan c =
+    let a = c.args in
+    let s = a.source.now in
+    let b = a.brands.now in
+    let o = a.out.now in
+    let e = c.in_err-plan.field-0.0 in
+    let r = c.in_err-plan.ensures.refusal in
+    let is : c.from_residual.result ≡ Err e = search rules in
+    let all = promised a.image s a.major a.minor b o
+    (ap (λ (w : Written). (w, o)) (refused_of e r (refusal_most a.image s b)) ∙ expand-refused a.image s a.major a.minor b o (λ z. number_not_zero e (r ∙ z))) in
+    rw is (record { answer = all.0; every_byte = tt; bounds = all.1.1 })
 
-pub data_lengths-l-requires : goal.data_lengths-l-requires
-data_lengths-l-requires c =
-    let s = c.args.source.now in
-    let b = c.args.brands.now in
-    let e = sym c.refusal_of-refusal.ensures.value ∙ c.if-refusal-ne0.false in
-    let x = expands c.args.image s b e in
-    let a = fit c.args.image s x.placed x.can_write in
-    a.bounded
-
-pub content_start-base-requires : goal.content_start-base-requires
-content_start-base-requires c =
-    let s = c.args.source.now in
-    let b = c.args.brands.now in
-    let e = sym c.refusal_of-refusal.ensures.value ∙ c.if-refusal-ne0.false in
-    let x = expands c.args.image s b e in
-    let a = fit c.args.image s x.placed x.can_write in
-    ((a.properties.bounded, x.brands_allowed), c.data_lengths-l.ensures)
-
-pub data_len-requires : goal.data_len-requires
-data_len-requires c =
-    let s = c.args.source.now in
-    let b = c.args.brands.now in
-    let e = sym c.refusal_of-refusal.ensures.value ∙ c.if-refusal-ne0.false in
-    let x = expands c.args.image s b e in
-    let a = fit c.args.image s x.placed x.can_write in
-    let g = ap data_len c.data_lengths-l.ensures in
-    omega (arith, g, content_most c.args.image a.bounded)
-
-pub overflow_add-needed : goal.overflow_add-needed
-overflow_add-needed c =
-    let s = c.args.source.now in
-    let b = c.args.brands.now in
-    let e = sym c.refusal_of-refusal.ensures.value ∙ c.if-refusal-ne0.false in
-    let x = expands c.args.image s b e in
-    let a = fit c.args.image s x.placed x.can_write in
-    let f = ap (λ (x : FileType). file_type_len x b) c.equivalent_file_type-t.ensures in
-    let g = ap data_len c.data_lengths-l.ensures in
-    let m = content_most c.args.image a.bounded in
-    omega (arith, g, m, c.content_start-base.ensures.1, c.data_len.ensures)
-
-pub returns-then-out-needed : goal.returns-then-out-needed
-returns-then-out-needed c =
-    let s = c.args.source.now in
-    let b = c.args.brands.now in
-    let e = sym c.refusal_of-refusal.ensures.value ∙ c.if-refusal-ne0.false in
-    let x = expands c.args.image s b e in
-    let a = fit c.args.image s x.placed x.can_write in
-    let f = ap (λ (x : FileType). file_type_len x b) c.equivalent_file_type-t.ensures in
-    let g = ap data_len c.data_lengths-l.ensures in
-    let m = content_most c.args.image a.bounded in
-    let k : c.content_start-base.result + c.data_len.result ≡ file_len c.args.image c.args.major c.args.minor b =
-    omega (arith, f, g, c.content_start-base.ensures.0, c.data_len.ensures) in
-    let all = promised c.args.image s c.args.major c.args.minor b c.args.out.now
-    (expand-short c.args.image s c.args.major c.args.minor b c.args.out.now e k (omega arith)) in
-    record { answer = all.0; every_byte = all.1.0; bounds = all.1.1 }
+pub returns-then-out-plan : goal.returns-then-out-plan
+returns-then-out-plan c =
+    let a = c.args in
+    let s = a.source.now in
+    let b = a.brands.now in
+    let p = c.in_ok-plan.ensures in
+    let all = promised a.image s a.major a.minor b a.out.now
+    (expand-short a.image s a.major a.minor b a.out.now (sym p.refusal) p.len c.if-out-plan.true) in
+    record { answer = all.0; every_byte = tt; bounds = all.1.1 }
 
 pub put_file-requires : goal.put_file-requires
 put_file-requires c =
+    let i = c.args.image in
     let s = c.args.source.now in
     let b = c.args.brands.now in
-    let e = sym c.refusal_of-refusal.ensures.value ∙ c.if-refusal-ne0.false in
-    let x = expands c.args.image s b e in
-    let a = fit c.args.image s x.placed x.can_write in
-    let f = ap (λ (x : FileType). file_type_len x b) c.equivalent_file_type-t.ensures in
-    let g = ap data_len c.data_lengths-l.ensures in
-    let m = content_most c.args.image a.bounded in record {
-      fits = (omega (arith, g, c.content_start-base.ensures.0, c.data_len.ensures), a);
-      allowed = (x.brands_allowed, (omega (arith, m, c.content_start-base.ensures.1), c.data_lengths-l.ensures));
+    let p = c.in_ok-plan.ensures in
+    let x = expands i s b (sym p.refusal) in
+    let a = fit i s x.placed x.can_write in
+    let f = ap (λ (t : FileType). file_type_len t b) p.file_type in
+    record {
+      fits = (omega (arith, f, p.len, c.if-out-plan.false), a);
+      allowed = (x.brands_allowed, (omega (arith, content_most i a.bounded, p.bound), p.lengths));
     }
 
 pub returns : goal.returns
 returns c =
-    let s = c.args.source.now in
-    let b = c.args.brands.now in
-    let e = sym c.refusal_of-refusal.ensures.value ∙ c.if-refusal-ne0.false in
-    let x = expands c.args.image s b e in
-    let a = fit c.args.image s x.placed x.can_write in
-    let f = ap (λ (x : FileType). file_type_len x b) c.equivalent_file_type-t.ensures in
-    let g = ap data_len c.data_lengths-l.ensures in
-    let m = content_most c.args.image a.bounded in
-    let k : c.content_start-base.result + c.data_len.result ≡ file_len c.args.image c.args.major c.args.minor b =
-    omega (arith, f, g, c.content_start-base.ensures.0, c.data_len.ensures) in
-    let c0 : c.content_start-base.result ≡ content_start c.args.image c.args.major c.args.minor b = omega (arith, f, c.content_start-base.ensures.0) in
-    let all = promised c.args.image s c.args.major c.args.minor b c.args.out.now
-    (expand-done c.args.image s c.args.major c.args.minor b c.args.out.now e k (omega arith) c.equivalent_file_type-t.ensures c0 c.put_file.ensures) in
-    record { answer = all.0; every_byte = all.1.0; bounds = all.1.1 }
+    let a = c.args in
+    let s = a.source.now in
+    let b = a.brands.now in
+    let p = c.in_ok-plan.ensures in
+    let all = promised a.image s a.major a.minor b a.out.now
+    (expand-done a.image s a.major a.minor b a.out.now (sym p.refusal) p.len (omega (arith, c.if-out-plan.false)) p.file_type p.content_start c.put_file.ensures) in
+    record { answer = all.0; every_byte = all.1.0 refl; bounds = all.1.1 }

@@ -1,70 +1,21 @@
-use Rattle.std.proofs.Common.{ap, arith, sym, ℕ, ◌+◌, ◌∙◌, ◌≡◌}
-use Rattle.ftyp.specs.FileType.{file_type_len}
-use Rattle.ftyp.specs.declared.FileType.{FileType}
-use Rattle.items.specs.ItemLocations.{data_len}
-use Rattle.expander.specs.EquivalentFile.{file_len}
-use Rattle.expander.specs.Placed.{fit, content_most}
-use Rattle.expander.specs.Expands.{expands}
-use Rattle.expander.specs.OutcomeLaws.{length_refused, length_told}
+use Rattle.std.proofs.Common.{rules, sym, Err, ◌∙◌, ◌≡◌}
+use Rattle.expander.specs.ExpandedLaws.{refusal_most}
+use Rattle.expander.specs.Outcome.{number_not_zero}
+use Rattle.expander.specs.OutcomeLaws.{refused_of, length_refused, length_told}
 use Rattle.expander.proofs.entry.equivalent_file_len.Goals as goal
 
-pub returns-then-refusal-ne0 : goal.returns-then-refusal-ne0
-returns-then-refusal-ne0 c =
-    let s = c.args.source.now in
-    let b = c.args.brands.now in
-    let e = c.refusal_of-refusal.ensures.value in
-    ap (λ (k : ℕ). record { refusal = k; len = 0 }) e ∙ length_refused c.args.image s c.args.major c.args.minor b (λ z. c.if-refusal-ne0.true (e ∙ z))
-
-pub data_lengths-l-requires : goal.data_lengths-l-requires
-data_lengths-l-requires c =
-    let s = c.args.source.now in
-    let b = c.args.brands.now in
-    let e = sym c.refusal_of-refusal.ensures.value ∙ c.if-refusal-ne0.false in
-    let x = expands c.args.image s b e in
-    let a = fit c.args.image s x.placed x.can_write in
-    a.bounded
-
-pub content_start-base-requires : goal.content_start-base-requires
-content_start-base-requires c =
-    let s = c.args.source.now in
-    let b = c.args.brands.now in
-    let e = sym c.refusal_of-refusal.ensures.value ∙ c.if-refusal-ne0.false in
-    let x = expands c.args.image s b e in
-    let a = fit c.args.image s x.placed x.can_write in
-    ((a.properties.bounded, x.brands_allowed), c.data_lengths-l.ensures)
-
-pub data_len-requires : goal.data_len-requires
-data_len-requires c =
-    let s = c.args.source.now in
-    let b = c.args.brands.now in
-    let e = sym c.refusal_of-refusal.ensures.value ∙ c.if-refusal-ne0.false in
-    let x = expands c.args.image s b e in
-    let a = fit c.args.image s x.placed x.can_write in
-    let g = ap data_len c.data_lengths-l.ensures in
-    omega (arith, g, content_most c.args.image a.bounded)
-
-pub overflow_add-result : goal.overflow_add-result
-overflow_add-result c =
-    let s = c.args.source.now in
-    let b = c.args.brands.now in
-    let e = sym c.refusal_of-refusal.ensures.value ∙ c.if-refusal-ne0.false in
-    let x = expands c.args.image s b e in
-    let a = fit c.args.image s x.placed x.can_write in
-    let f = ap (λ (x : FileType). file_type_len x b) c.equivalent_file_type-t.ensures in
-    let g = ap data_len c.data_lengths-l.ensures in
-    let m = content_most c.args.image a.bounded in
-    omega (arith, g, m, c.content_start-base.ensures.1, c.data_len.ensures)
+pub returns-in_err-plan : goal.returns-in_err-plan
+returns-in_err-plan c =
+    let a = c.args in
+    let s = a.source.now in
+    let b = a.brands.now in
+    let e = c.in_err-plan.field-0.0 in
+    let r = c.in_err-plan.ensures.refusal in
+    let is : c.from_residual.result ≡ Err e = search rules in
+    rw is (refused_of e r (refusal_most a.image s b) ∙ length_refused a.image s a.major a.minor b (λ z. number_not_zero e (r ∙ z)))
 
 pub returns : goal.returns
 returns c =
-    let s = c.args.source.now in
-    let b = c.args.brands.now in
-    let e = sym c.refusal_of-refusal.ensures.value ∙ c.if-refusal-ne0.false in
-    let x = expands c.args.image s b e in
-    let a = fit c.args.image s x.placed x.can_write in
-    let f = ap (λ (x : FileType). file_type_len x b) c.equivalent_file_type-t.ensures in
-    let g = ap data_len c.data_lengths-l.ensures in
-    let m = content_most c.args.image a.bounded in
-    let k : c.content_start-base.result + c.data_len.result ≡ file_len c.args.image c.args.major c.args.minor b =
-    omega (arith, f, g, c.content_start-base.ensures.0, c.data_len.ensures) in
-    length_told c.args.image s c.args.major c.args.minor b e k
+    let a = c.args in
+    let p = c.in_ok-plan.ensures in
+    length_told a.image a.source.now a.major a.minor a.brands.now (sym p.refusal) p.len

@@ -3,8 +3,8 @@ use Rattle.expander.proofs.file.meta_body_len.Goals as goal
 
 pub returns : goal.returns
 returns c =
-    let a = rw c.item_set-set.ensures at c.iinf_len-a.ensures.0 in
-    let b = rw c.item_set-set.ensures at c.iref_len-b.ensures.0 in
-    let d = rw c.item_set-set.ensures at c.grpl_len-d.ensures.0 in
-    let e = rw c.requires.1 at c.iloc_len-e.ensures.0 in
+    let a = rw c.item_set-set.ensures at c.iinf_len.ensures.0 in
+    let b = rw c.item_set-set.ensures at c.iref_len.ensures.0 in
+    let d = rw c.item_set-set.ensures at c.grpl_len.ensures.0 in
+    let e = rw c.requires.1 at c.iloc_len.ensures.0 in
     (omega (arith, a, b, d, e), omega arith)

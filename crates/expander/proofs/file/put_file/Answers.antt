@@ -3,8 +3,8 @@ use Rattle.octets.specs.OverwriteLaws.{then}
 use Rattle.expander.specs.Placed.{content_most, meta_most}
 use Rattle.expander.proofs.file.put_file.Goals as goal
 
-pub put_meta-b-requires : goal.put_meta-b-requires
-put_meta-b-requires c =
+pub put_meta-at-requires : goal.put_meta-at-requires
+put_meta-at-requires c =
     record {
       fits = (omega (arith, c.requires.fits.0), (c.requires.fits.1.properties, c.requires.allowed.1.0));
       of_image = (omega (arith, meta_most c.args.image c.requires.fits.1.properties.bounded), c.requires.allowed.1.1);
@@ -15,4 +15,4 @@ put_mdat-requires c =
     (omega (arith, c.requires.fits.0), (c.requires.fits.1.placed, omega (arith, content_most c.args.image c.requires.fits.1.bounded)))
 
 pub returns : goal.returns
-returns c = then (then c.put_ftyp-a.ensures c.put_meta-b.ensures) c.put_mdat.ensures
+returns c = then (then c.put_ftyp-at.ensures c.put_meta-at.ensures) c.put_mdat.ensures

@@ -1,4 +1,3 @@
--- `header_reader::fields::read_chroma` meets its contract. Assumes nothing.
 use Rattle.bits.specs.Run.{run_view, run_seq}
 use Rattle.mini.specs.Syntax.{chroma}
 use Rattle.header_reader.proofs.fields.read_chroma.Goals as goal
@@ -7,5 +6,5 @@ pub returns : goal.returns
 unfolding chroma
 returns c =
     run_view _ _ _ _ _ _
-    (run_seq _ _ (rw c.either-across.ensures at c.flag_if-h.ensures)
-    c.flag_if-v.ensures)
+    (run_seq _ _ c.flag_if-horizontally_centered.ensures
+    c.flag_if-vertically_centered.ensures)

@@ -1,4 +1,3 @@
--- `header_reader::fields::read_dimensions` meets its contract. Assumes nothing.
 use Rattle.bits.specs.Run.{run_view, run_seq}
 use Rattle.mini.specs.Syntax.{dimensions}
 use Rattle.header_reader.proofs.fields.read_dimensions.Goals as goal

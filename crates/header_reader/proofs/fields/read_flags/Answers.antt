@@ -1,4 +1,3 @@
--- `header_reader::fields::read_flags` meets its contract. Assumes nothing.
 use Rattle.bits.specs.Run.{run_view, run_then, run_exactly, run_seq, run_minus1}
 use Rattle.mini.specs.Syntax.{flags}
 use Rattle.header_reader.proofs.fields.read_flags.Goals as goal
@@ -7,7 +6,7 @@ pub returns : goal.returns
 unfolding flags
 returns c =
     run_view _ _ _ _ _ _
-    (run_then _ _ (run_exactly 2 0 6 tt c.read-v.ensures.run c.test-b1.ensures)
+    (run_then _ _ (run_exactly 2 0 6 tt c.read-version.ensures.run c.test-b.ensures)
     (run_seq _ _ c.flag-explicit_codec_types.ensures
     (run_seq _ _ c.flag-float.ensures
     (run_seq _ _ c.flag-full_range.ensures
@@ -18,4 +17,4 @@ returns c =
     (run_seq _ _ c.flag-exif.ensures
     (run_seq _ _ c.flag-xmp.ensures
     (run_seq _ _ c.byte-subsampling.ensures.run
-    (run_minus1 3 c.byte-orientation.ensures.run))))))))))))
+    (run_minus1 3 c.byte-orientation_minus1.ensures.run))))))))))))

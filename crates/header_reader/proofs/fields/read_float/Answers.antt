@@ -1,4 +1,3 @@
--- `header_reader::fields::read_float` meets its contract. Assumes nothing.
 use Rattle.std.proofs.Common.{ltb}
 use Rattle.bits.specs.Format.{field}
 use Rattle.bits.specs.Run.{run_view, run_ensure}
@@ -8,4 +7,4 @@ use Rattle.header_reader.proofs.fields.read_float.Goals as goal
 pub returns : goal.returns
 unfolding float_format
 returns c =
-    rw c.float_bits-bits.ensures (run_view _ _ _ _ _ _ (run_ensure (field 2) (λ v. ltb v 3) 7 tt c.byte-v.ensures.run c.test-next.ensures))
+    rw c.float_bits-bits.ensures (run_view _ _ _ _ _ _ (run_ensure (field 2) (λ v. ltb v 3) 7 tt c.byte-code.ensures.run c.test.ensures))

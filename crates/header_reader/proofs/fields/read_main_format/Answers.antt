@@ -1,4 +1,3 @@
--- `header_reader::fields::read_main_format` meets its contract. Assumes nothing.
 use Rattle.bits.specs.Run.{run_view, run_seq}
 use Rattle.mini.specs.Syntax.{main_format}
 use Rattle.header_reader.proofs.fields.read_main_format.Goals as goal
@@ -7,8 +6,8 @@ pub returns : goal.returns
 unfolding main_format
 returns c =
     run_view _ _ _ _ _ _
-    (run_seq _ _ c.read_chroma-c.ensures
-    (run_seq _ _ c.read_format-o.ensures
-    (run_seq _ _ c.flag_if-p.ensures
-    (run_seq _ _ c.read_cicp-i.ensures
-    c.read_types-t.ensures))))
+    (run_seq _ _ c.read_chroma.ensures
+    (run_seq _ _ c.read_format-format.ensures
+    (run_seq _ _ c.flag_if-alpha_premultiplied.ensures
+    (run_seq _ _ c.read_cicp-explicit_cicp.ensures
+    c.read_types-explicit_codec_types.ensures))))

@@ -1,6 +1,4 @@
--- `header_reader::fields::read_types` meets its contract. Assumes nothing.
-use Rattle.std.proofs.Common.{refl}
-use Rattle.bits.specs.Run.{run_on, run_off, run_view, run_seq}
+use Rattle.bits.specs.Run.{run_on, run_view, run_seq}
 use Rattle.mini.specs.Syntax.{explicit_codec_types}
 use Rattle.header_reader.proofs.fields.read_types.Goals as goal
 
@@ -9,9 +7,5 @@ unfolding explicit_codec_types
 returns-then-on c =
     run_on _ _ _ c.if-on.true
     (run_view _ _ _ _ _ _
-    (run_seq _ _ c.read-i.ensures.run
-    c.read-c.ensures.run))
-
-pub returns-else-on : goal.returns-else-on
-unfolding explicit_codec_types
-returns-else-on c = run_off _ _ _ c.if-on.false (record { eq = refl })
+    (run_seq _ _ c.read-infe_type.ensures.run
+    c.read-codec_config_type.ensures.run))

@@ -1,4 +1,3 @@
--- `header_reader::hdr_boxes::read_hdr_boxes` meets its contract. Assumes nothing.
 use Rattle.bits.specs.Run.{run_view, run_seq}
 use Rattle.mini.specs.Syntax.{hdr_boxes}
 use Rattle.header_reader.proofs.hdr_boxes.read_hdr_boxes.Goals as goal
@@ -13,9 +12,9 @@ returns c =
     (run_seq _ _ c.flag-has_amve.ensures
     (run_seq _ _ c.flag-has_reve.ensures
     (run_seq _ _ c.flag-has_ndwt.ensures
-    (run_seq _ _ c.body4_if-clli_read.ensures
-    (run_seq _ _ c.body24_if-mdcv_read.ensures
-    (run_seq _ _ c.read_cclv_if-cclv_read.ensures
-    (run_seq _ _ c.body8_if-amve_read.ensures
-    (run_seq _ _ c.body20_if-reve_read.ensures
-    c.body4_if-ndwt_read.ensures)))))))))))
+    (run_seq _ _ c.body_if.ensures
+    (run_seq _ _ c.body_if-2.ensures
+    (run_seq _ _ c.read_cclv_if.ensures
+    (run_seq _ _ c.body_if-3.ensures
+    (run_seq _ _ c.body_if-4.ensures
+    c.body_if-5.ensures)))))))))))

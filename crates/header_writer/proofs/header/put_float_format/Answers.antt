@@ -9,7 +9,7 @@ use Rattle.header_writer.proofs.header.put_float_format.Goals as goal
 pub returns : goal.returns
 unfolding float_format view
 returns c =
-    let e = c.float_code-code.ensures ∙ ap float_code c.bits_in.ensures in
+    let e = c.float_code-code.ensures ∙ ap float_code c.bits.ensures in
     puts_of _ _
-    (tested (tested (put_of (puts_as _ e c.put-w1.ensures)) (tested_as (ap (λ (k : ℕ). ltb k 3) e) c.test-w2.ensures))
-    (tested_as c.has_float_code.ensures c.test.ensures))
+    (tested (tested (put_of (puts_as _ e c.put.ensures)) (tested_as (ap (λ (k : ℕ). ltb k 3) e) c.test.ensures))
+    (tested_as c.has_float_code.ensures c.test-2.ensures))

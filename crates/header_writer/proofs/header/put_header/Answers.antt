@@ -9,10 +9,10 @@ unfolding header ◌>>=◌ view
 returns c =
     puts_of _ _
     (whole
-    (then (put_of c.put_flags-w1.ensures)
-    (then (put_of c.put_dimensions-w2.ensures)
-    (then (put_of c.put_main_format-w3.ensures)
-    (then (put_of c.put_gain_map_header-w4.ensures)
-    (then (put_of c.put_hdr_boxes-w5.ensures)
-    (then (put_of c.put_hdr_boxes-w6.ensures)
-    ((put_of c.put_sizes.ensures)))))))))
+    (then (put_of c.put_flags-w.ensures)
+    (then (put_of c.put_dimensions-w.ensures)
+    (then (put_of c.put_main_format-w.ensures)
+    (then (put_of c.put_gain_map_header-w.ensures)
+    (then (put_of c.put_hdr_boxes-w.ensures)
+    (then (put_of c.put_hdr_boxes-w-2.ensures)
+    (put_of c.put_sizes.ensures))))))))

@@ -9,5 +9,5 @@ pub returns : goal.returns
 unfolding integer_format
 returns c =
     puts_view _ _ _ _ _ _
-    (puts_as _ (ap (λ (n : ℕ). (not (eqb n 8), n)) c.bits_in-bits.ensures) (puts_seq _ _ c.flag-w1.ensures c.put_depth-w2.ensures))
+    (puts_as _ (ap (λ (n : ℕ). (not (eqb n 8), n)) c.bits-bits.ensures) (puts_seq _ _ c.flag-w.ensures c.put_depth.ensures))
     (tested_as (ap not c.is_float.ensures ∙ is_integer c.args.f) c.test.ensures)

@@ -7,8 +7,8 @@ pub returns : goal.returns
 unfolding main_format
 returns c =
     puts_renamed _ _ _ _ _
-    (puts_seq _ _ c.put_chroma-w1.ensures
-    (puts_seq _ _ c.put_sample_format-w2.ensures
-    (puts_seq _ _ c.flag_if-w3.ensures
-    (puts_seq _ _ c.put_explicit_cicp-w4.ensures
-    (c.put_codec_types.ensures)))))
+    (puts_seq _ _ c.put_chroma-w.ensures
+    (puts_seq _ _ c.put_sample_format-w.ensures
+    (puts_seq _ _ c.flag_if-w.ensures
+    (puts_seq _ _ c.put_explicit_cicp-w.ensures
+    c.put_codec_types.ensures))))

@@ -5,4 +5,4 @@ use Rattle.items.proofs.info.put_iinf_body.Goals as goal
 pub returns : goal.returns
 unfolding iinf_body
 returns c =
-    rw (joined-entries, count_entries, ← c.entry_count-count.ensures) (then (then c.put_full_box_header-a.ensures c.put_u16-b.ensures) c.put_entries.ensures)
+    rw (joined-entries, count_entries, ← c.entry_count.ensures) (then (then c.put_full_box_header-at.ensures c.put-at.ensures) c.put_entries.ensures)

@@ -5,4 +5,4 @@ use Rattle.items.proofs.locations.put_iloc_body.Goals as goal
 pub returns : goal.returns
 unfolding iloc_body
 returns c =
-    rw (count_locations, ← c.location_count-count.ensures) (then (then (then c.put_full_box_header-a.ensures c.put_u16-b.ensures) c.put_u16-c.ensures) c.put_entries.ensures)
+    rw (count_locations, ← c.location_count.ensures.value) (then (then (then c.put_full_box_header-at.ensures c.put-at.ensures) c.put-at-2.ensures) c.put_entries.ensures)

@@ -4,4 +4,4 @@ use Rattle.layout.proofs.file_type.put_file_type.Goals as goal
 
 pub returns : goal.returns
 unfolding file_type_bytes
-returns c = then (then c.put_u32-a.ensures c.put_u32-b.ensures) c.put_span.ensures
+returns c = then (then c.put-a.ensures c.put-b.ensures) c.put_span.ensures

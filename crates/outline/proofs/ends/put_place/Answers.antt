@@ -1,4 +1,3 @@
--- `outline::ends::put_place` meets its contract. Assumes nothing.
 use Rattle.std.proofs.Common.{ap, arith, ℕ, ◌%◌, ◌∙◌, ◌≡◌}
 use Rattle.octets.specs.OverwriteLaws.{recast}
 use Rattle.octets.specs.BigEndian.{be}
@@ -11,4 +10,4 @@ be-low x y e = ap (be 8) e ∙ be-mod 8 y
 
 pub returns : goal.returns
 unfolding state
-returns c = recast c.put_u64.ensures (be-low _ _ (omega (arith, c.wrapping_add_u64-place.ensures.value)))
+returns c = recast c.put.ensures (be-low _ _ (omega arith))

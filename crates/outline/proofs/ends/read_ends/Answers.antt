@@ -1,22 +1,22 @@
 -- `outline::ends::read_ends` meets its contract. Assumes nothing.
 use Rattle.std.proofs.Common.{ap, sym, ◌∙◌}
-use Rattle.outline.specs.Ends.{noted, header_parts, first_places, last_places, places, part_read, ends_of}
+use Rattle.outline.specs.Ends.{noted, header_parts, places, part_read, ends_of}
 use Rattle.outline.proofs.ends.read_ends.Goals as goal
 
 pub returns : goal.returns
-unfolding header_parts first_places last_places places
+unfolding header_parts places
 returns c =
     let s = c.args.payload.now in
     sym (ends_of s
-    (ap (header_parts s) (sym c.new-start.ensures) ∙ part_read _ _ c.read_flags-f.ensures
-    ∙ ap (noted _) (part_read _ _ c.read_dimensions-d.ensures
-    ∙ ap (noted _) (part_read _ _ c.read_chroma-c.ensures
-    ∙ ap (noted _) (part_read _ _ c.read_format-o.ensures
-    ∙ ap (noted _) (part_read _ _ c.flag_if-p.ensures
-    ∙ ap (noted _) (part_read _ _ c.read_cicp-i.ensures
-    ∙ ap (noted _) (part_read _ _ c.read_types-t.ensures
-    ∙ ap (noted _) (part_read _ _ c.read_gain_map_header_if-g.ensures
-    ∙ ap (noted _) (part_read _ _ c.read_hdr_boxes_if-h.ensures
-    ∙ ap (noted _) (part_read _ _ c.read_hdr_boxes_if-m.ensures
-    ∙ ap (noted _) (part_read _ _ c.read_sizes-z.ensures.run)))))))))))
+    (ap (header_parts s) (sym c.new.ensures) ∙ part_read _ _ c.read_flags.ensures
+    ∙ ap (noted _) (part_read _ _ c.read_dimensions.ensures
+    ∙ ap (noted _) (part_read _ _ c.read_chroma.ensures
+    ∙ ap (noted _) (part_read _ _ c.read_format.ensures
+    ∙ ap (noted _) (part_read _ _ c.flag_if.ensures
+    ∙ ap (noted _) (part_read _ _ c.read_cicp.ensures
+    ∙ ap (noted _) (part_read _ _ c.read_types.ensures
+    ∙ ap (noted _) (part_read _ _ c.read_gain_map_header_if.ensures
+    ∙ ap (noted _) (part_read _ _ c.read_hdr_boxes_if.ensures
+    ∙ ap (noted _) (part_read _ _ c.read_hdr_boxes_if-2.ensures
+    ∙ ap (noted _) (part_read _ _ c.read_sizes.ensures.run)))))))))))
     c.read_trailing_bits-trailing.ensures)

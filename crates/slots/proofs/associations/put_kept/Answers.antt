@@ -1,26 +1,26 @@
-use Rattle.std.proofs.Common.{add-one, arith, length, ◌≡◌}
-use lib.Seq.{take-length}
-use Rattle.octets.specs.OverwriteLaws.{then, nothing, recast}
+use Rattle.std.proofs.Common.{arith, sym, length-append}
+use Rattle.octets.specs.OverwriteLaws.{then, nothing}
 use Rattle.octets.specs.OverwriteLaws.{kept as kept-length}
 use Rattle.slots.specs.Associations.{kept}
-use Rattle.slots.specs.AssociationLaws.{kept_more, kept_room, kept_count}
-use Rattle.slots.specs.SlotLaws.{recount}
+use Rattle.slots.specs.AssociationLaws.{kept_room}
+use Rattle.slots.proofs.Laws.{kept_yes, kept_no}
 use Rattle.slots.proofs.associations.put_kept.Goals as goal
+use Rattle.slots.proofs.associations.put_kept.Goals.{then-is_kept, else-is_kept}
 
-pub loop-j-init : goal.loop-j-init
+pub loop-x-init : goal.loop-x-init
 unfolding kept
-loop-j-init c = (omega arith, nothing _ _)
+loop-x-init c = nothing _ _
 
-pub put_if-p-requires : goal.put_if-p-requires
-put_if-p-requires c =
-    rw c.is_kept-keep.ensures (omega (arith, c.loop-j.invariant.1.next, kept-length c.loop-j.invariant.1, kept_room c.args.used c.args.xs.now c.loop-j.j c.loop-j-test.true, c.requires))
+pub put_u8-next-requires : goal.put_u8-next-requires
+put_u8-next-requires c =
+    let room = rw (← c.if-is_kept.ensures) at (kept_room c.args.used c.args.xs.now c.loop-x.x-index c.loop-x-test.true) in
+    omega (arith, room, kept-length c.loop-x.invariant)
 
-pub loop-j-preserved : goal.loop-j-preserved
-loop-j-preserved c =
-    let w = rw c.is_kept-keep.ensures at c.put_if-p.ensures in
-    (omega arith, rw add-one (recount (recast (then c.loop-j.invariant.1 w) (kept_more c.args.used c.args.xs.now c.loop-j.j c.loop-j-test.true)) (kept_count c.args.used c.args.xs.now c.loop-j.j c.loop-j-test.true)))
-
-pub returns : goal.returns
-returns c =
-    let all : c.loop-j.j ≡ length c.args.xs.now = omega arith in
-    rw (all, take-length) at c.loop-j.invariant.1
+pub loop-x-preserved : goal.loop-x-preserved
+loop-x-preserved c =
+    let xs = c.args.xs.now in
+    let j = c.loop-x.x-index in
+    elim c.if-is_kept.branch [
+      | then-is_kept w ↦ rw (w.out-is, w.next-is, kept_yes c.args.used xs j c.loop-x-test.true (sym w.if-is_kept.ensures), length-append) (then c.loop-x.invariant w.put_u8-next.ensures)
+      | else-is_kept w ↦ rw (w.out-is, w.next-is, kept_no c.args.used xs j c.loop-x-test.true (sym w.if-is_kept.ensures)) c.loop-x.invariant
+    ]

@@ -1,10 +1,9 @@
-use Rattle.std.proofs.Common.{length, take, ◌-◌, ◌≤◌}
+use Rattle.std.proofs.Common.{length, take}
 use Rattle.octets.specs.Overwrite.{Wrote}
 use Rattle.slots.specs.Associations.{kept}
 use Rattle.slots.proofs.associations.put_kept.Given as goal
 
-abbrev pub invariant-loop-j : goal.invariant-loop-j
-invariant-loop-j l = (l.j ≤ length l.xs) × Wrote l.initial.out l.at (length (kept l.used (take l.j l.xs))) (kept l.used (take l.j l.xs)) l.out l.p
-
-abbrev pub decreases-loop-j : goal.decreases-loop-j
-decreases-loop-j l = length l.xs - l.j
+-- as far as the loop has come
+abbrev pub invariant-loop-x : goal.invariant-loop-x
+invariant-loop-x l =
+    Wrote l.fn.out l.at (length (kept l.used (take l.x-index l.xs))) (kept l.used (take l.x-index l.xs)) l.out l.next

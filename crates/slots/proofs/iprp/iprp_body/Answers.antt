@@ -7,4 +7,4 @@ use Rattle.slots.proofs.iprp.iprp_body.Goals as goal
 pub returns : goal.returns
 unfolding ipma
 returns c =
-    then c.put_ipco-a.ensures (recast c.put_ipma.ensures (ap (ipma_with c.args.image) (sym (used_slots_lem c.args.image c.args.source.now))))
+    then c.put_ipco-at.ensures (recast c.put_ipma.ensures (ap (ipma_with c.args.image) (sym (used_slots_lem c.args.image c.args.source.now))))

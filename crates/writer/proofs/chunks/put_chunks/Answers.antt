@@ -6,14 +6,14 @@ use Rattle.writer.proofs.chunks.put_chunks.Goals as goal
 pub returns : goal.returns
 unfolding chunks_of
 returns c =
-    then c.put_span-at1.ensures
-    (then c.put_chunk-at2.ensures
-    (then c.put_chunk-at3.ensures
-    (then c.put_chunk-at4.ensures
-    (then c.put_chunk-at5.ensures
-    (then c.put_span-at6.ensures
-    (then c.put_span-at7.ensures
-    (then c.put_span-at8.ensures
-    (then c.put_span-at9.ensures
-    (then c.put_chunk-at10.ensures
-    ((ended c.put_chunk.ensures)))))))))))
+    then c.put_span-at.ensures
+    (then c.put_chunk-at.ensures
+    (then c.put_chunk-at-2.ensures
+    (then c.put_chunk-at-3.ensures
+    (then c.put_chunk-at-4.ensures
+    (then c.put_span-at-2.ensures
+    (then c.put_span-at-3.ensures
+    (then c.put_span-at-4.ensures
+    (then c.put_span-at-5.ensures
+    (then c.put_chunk-at-5.ensures
+    (ended c.put_chunk.ensures))))))))))

@@ -1,8 +1,0 @@
-use Rattle.std.proofs.Common.{arith, eq-eqb, ne_eqb}
-use Rattle.items.proofs.locations.one_for.Goals as goal
-
-pub returns-then-len-eq0 : goal.returns-then-len-eq0
-returns-then-len-eq0 c = (simp (eq-eqb _ _ c.if-len-eq0.true), omega arith)
-
-pub returns : goal.returns
-returns c = (simp (ne_eqb _ _ c.if-len-eq0.false), omega arith)

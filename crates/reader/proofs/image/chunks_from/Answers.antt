@@ -1,0 +1,29 @@
+use Rattle.std.proofs.Common.{ap, arith, le-leb, refl, length, ◌*◌, ◌+◌, ◌/◌, ◌∙◌}
+use borrow.Author.Tests.{lt-leb}
+use Rattle.bits.specs.State.{clean}
+use Rattle.mini.specs.Chunks.{stored_sizes}
+use Rattle.mini.specs.Cut.{sum}
+use Rattle.mini.specs.declared.MinimizedImage.{MinimizedImage}
+use Rattle.reader.specs.Rules.{chunks_there, chunks_short}
+use Rattle.reader.proofs.image.chunks_from.Goals as goal
+
+pub returns-in_default : goal.returns-in_default
+returns-in_default c =
+    let a = c.args in
+    let p = a.at.0 * 8 + a.at.1 in
+    chunks_short a.payload.now a.h (clean p) refl (lt-leb (p / 8 + sum (stored_sizes a.h.sizes)) (length a.payload.now) (omega arith))
+
+pub returns-then-rest-over : goal.returns-then-rest-over
+returns-then-rest-over c =
+    let a = c.args in
+    let p = a.at.0 * 8 + a.at.1 in
+    chunks_short a.payload.now a.h (clean p) refl
+    (lt-leb (p / 8 + sum (stored_sizes a.h.sizes)) (length a.payload.now) (omega (arith, c.chunk_bytes.ensures)))
+
+pub returns : goal.returns
+returns c =
+    let a = c.args in
+    let at = a.at.0 + a.at.1 / 8 in
+    ap (λ (i : MinimizedImage). record { refusal = 0; image = i }) c.image_of.ensures
+    ∙ chunks_there a.payload.now a.h (clean (a.at.0 * 8 + a.at.1)) at refl (omega arith)
+    (le-leb (at + sum (stored_sizes a.h.sizes)) (length a.payload.now) (omega (arith, c.chunk_bytes.ensures)))

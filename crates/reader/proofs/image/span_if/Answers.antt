@@ -1,8 +1,0 @@
--- `reader::image::span_if` meets its contract. Assumes nothing.
-use Rattle.reader.proofs.image.span_if.Goals as goal
-
-pub returns-then-on : goal.returns-then-on
-returns-then-on c = simp c.if-on.true
-
-pub returns-else-on : goal.returns-else-on
-returns-else-on c = simp c.if-on.false

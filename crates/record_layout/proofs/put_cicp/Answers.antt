@@ -1,7 +1,0 @@
-use Rattle.record_layout.proofs.put_cicp.Goals as goal
-
-pub returns-in_default : goal.returns-in_default
-returns-in_default c = rw c.in_default.is c.put_zeros.ensures
-
-pub returns : goal.returns
-returns c = rw c.in-Present.is c.put_colour.ensures
