@@ -2,11 +2,12 @@
 -- together. Assumes nothing.
 use Rattle.std.specs.Prelude.{◌≡◌, ℕ, zero, suc, ◌+◌, ◌*◌, ◌/◌, ◌%◌, ◌^◌, ◌<◌, ◌≤◌, Bool, true, false, ◌&&◌, T, ◌↔◌, List, [], ◌∷◌, ◌++◌, length, take, drop, replicate, ◌==◌, ◌≢◌, nat_lt, slice_index, slice_set}
 use Rattle.std.proofs.Math.Path.{refl, ap}
-use Rattle.std.proofs.Common.{sym, ap₂, ◌∙◌, subst, true≢false, append_assoc, append-nil, pow-suc, add-suc, add-zero, mul_assoc, div-one, div-add-mod', mod-lt, mul-le-mul_right, pow_pos, arith, length-set, drop_of_length-le, add-one, drop-cons, take_all, eq-eqb, ne_eqb, lt-ltb}
+use Rattle.std.proofs.Common.{pow_mono, sym, ap₂, ◌∙◌, subst, true≢false, append_assoc, append-nil, pow-suc, add-suc, add-zero, mul_assoc, div-one, div-add-mod', mod-lt, mul-le-mul_right, pow_pos, arith, length-set, drop_of_length-le, add-one, drop-cons, take_all, eq-eqb, ne_eqb, lt-ltb}
 use Rattle.std.proofs.lemmas.Bool.{false≢true}
 use Rattle.std.proofs.Math.Nat.{pow-succ', div-div-eq-div-mul, mul-add-div_right, div-eq_of_lt}
 use Rattle.std.proofs.Math.Pow.{are_bytes}
 use Rattle.std.proofs.lemmas.List.Edits.{sets}
+use lib.Seq.{set_out}
 use Rattle.bits.specs.Bit.{to_n, odd, val, bits_n, bits_onto, bits_of, bits_onto_is, bits_onto-append, length-bits_n, val-bits_n}
 use Rattle.bits.specs.State.{bytes_of, is_reading_refusal}
 use Rattle.bits.specs.Format.{Format, field, flag, flag_if, field_if, minus1_if, choose, view, const, exactly, bytes, is_list, listed, ◌>>=◌, ◌>>◌}
@@ -349,3 +350,23 @@ module _ {o o' : List ℕ} {w w' : BitWriter} {l : List Bool} {g : Bool} where
 
   pub whole : Put o w l g o' w' → Put o w l (g && true) o' w'
   whole x = record { fed = x.fed; ok = x.ok ∙ ap (λ (t : Bool). fits w && t) (and_on g true refl) }
+
+-- no part, where the flag that it stands by is false, and a test that the value is the one for none
+pub puts_not : {A : Type 0} {a : A} {o : List ℕ} {w w' : BitWriter} (p : Format A) (z : A) (is : A → Bool) (d : (x : A) → T (is x) ↔ (x ≡ z)) (t : Bool) → t ≡ false → Tested w (is a) w' → Puts (choose t p (const z is d)) o w a o w'
+puts_not p z is d t e q = puts_off _ _ _ e (puts_none _ _ _ _ _ q)
+
+-- by which `grind` sees what a field is, and a part that stands where a flag says so
+pub ruleset formats = (puts_field, puts_on, puts_not)
+
+pub ruleset storing = (set_out)
+
+-- the numbers that two runs of bits are joined by
+pub pow_32 : (n : ℕ) → n ≤ 32 → 2 ^ n ≤ 4294967296
+pow_32 n h = pow_mono {j = 32} h
+
+pub pow_7 : (n : ℕ) → n ≤ 7 → 2 ^ n ≤ 128
+pow_7 n h = pow_mono {j = 7} h
+
+pub ruleset powers = (pow_32, pow_pos)
+
+pub ruleset joining = (pow_7, join_fits, mod-lt, bits_join)

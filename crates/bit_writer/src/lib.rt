@@ -2,16 +2,16 @@
 // call. A byte past the end of the output is not stored. Once a value does not fit its field, the state says so.
 #![tactic(auto)]
 
-ghost use Rattle.std.specs.Prelude.{◌≡◌, ◌+◌, ◌-◌, ◌%◌, ◌^◌, ◌≤◌, true, ◌&&◌, [], ◌++◌, length, take, drop, slice_set};
+ghost use Rattle.std.specs.Prelude.{◌≡◌, ◌+◌, ◌-◌, ◌%◌, ◌^◌, ◌≤◌, true, [], ◌++◌, length, slice_set};
 ghost use Rattle.bits.specs.Bit.{bits_n, bits_of};
-ghost use Rattle.bits.specs.Format.{field, flag, field_if, flag_if, minus1_if, offset, sized, bytes_for};
+ghost use Rattle.bits.specs.Format.{field, flag, field_if, flag_if, minus1_if, offset, sized, bytes, bytes_for};
 ghost use Rattle.bit_writer.specs.Writer.{place, waiting, fits, Fed, Tested, Puts, all_zero};
 
 use bits::{BitPos, Widths};
 
 // A writer's state: the bit that comes next, the bits since the last whole byte as the low bits of a number, and whether every
 // value so far fits its field.
-#[derive(Clone, Copy)]
+#[derive(Clone, Copy, Debug, PartialEq, Eq)]
 pub struct BitWriter {
     pub at: BitPos,
     pub bits: usize,
@@ -19,6 +19,7 @@ pub struct BitWriter {
 }
 
 // A byte at its place. Past the end nothing is stored.
+#[tactic(auto, using(crate::specs::WriterLaws::storing))]
 fn store(out: &mut [u8], at: usize, x: u8)
     ensures { out.new ≡ slice_set out.old at x }
 {
@@ -28,6 +29,7 @@ fn store(out: &mut [u8], at: usize, x: u8)
 }
 
 // 2 ^ n.
+#[tactic(auto, using(crate::specs::WriterLaws::powers))]
 fn power(n: u32) -> usize
     requires { n ≤ 32 }
     ensures value { result ≡ 2 ^ n }
@@ -37,6 +39,7 @@ fn power(n: u32) -> usize
 }
 
 // The j low bits of a number, and the n low bits of another after them.
+#[tactic(auto, using(crate::specs::WriterLaws::joining))]
 fn join(high: usize, j: u32, n: u32, low: usize) -> usize
     requires { (j ≤ 7) × (n ≤ 32) }
     ensures { bits_n (j + n) result ≡ bits_n j high ++ bits_n n low }
@@ -46,11 +49,11 @@ fn join(high: usize, j: u32, n: u32, low: usize) -> usize
     high % top * size + low % size
 }
 
-// Whether all bytes from a place on are zero.
-pub fn zeros(s: &[u8], from: usize) -> bool
-    ensures { result ≡ all_zero (drop from s.now) }
+// Whether all bytes are zero.
+pub fn all_zero(s: &[u8]) -> bool
+    ensures { result ≡ all_zero s.now }
 {
-    s.iter().skip(from).all(|&x| x == 0)
+    s.iter().all(|&x| x == 0)
 }
 
 impl BitWriter {
@@ -83,11 +86,11 @@ impl BitWriter {
         ensures fed { Fed out.old self (bits_n n v) out.new result }
         ensures fits_as_before { fits result ≡ fits self }
     {
-        let j = (self.at.1 % 8) as u32;
+        let j = self.at.bit() as u32;
         let all = join(self.bits, j, n, v);
         let mut k = self.at.0;
         let mut m = j + n;
-        // No index: so many bits are left.
+        // m bits still wait. No `for`: what m and k are after the last whole byte is the next state.
         while 8 <= m {
             m -= 8;
             store(out, k, ((all >> m) % 256) as u8);
@@ -101,6 +104,7 @@ impl BitWriter {
     }
 
     // A field of n bits.
+    #[tactic(auto, using(crate::specs::WriterLaws::formats))]
     pub fn put(self, out: &mut [u8], n: u32, v: usize) -> BitWriter
         requires { n ≤ 32 }
         ensures { Puts (field n) out.old self v out.new result }
@@ -110,6 +114,7 @@ impl BitWriter {
     }
 
     // A field where the flag says so; else no bits, for 0.
+    #[tactic(auto, using(crate::specs::WriterLaws::formats))]
     pub fn put_if(self, out: &mut [u8], on: bool, n: u32, v: usize) -> BitWriter
         requires { n ≤ 32 }
         ensures { Puts (field_if on n) out.old self v out.new result }
@@ -124,10 +129,11 @@ impl BitWriter {
     pub fn flag(self, out: &mut [u8], b: bool) -> BitWriter
         ensures { Puts flag out.old self b out.new result }
     {
-        self.put(out, 1, b as usize)
+        self.put(out, 1, usize::from(b))
     }
 
     // A flag where another says so; else no bits, for false.
+    #[tactic(auto, using(crate::specs::WriterLaws::formats))]
     pub fn flag_if(self, out: &mut [u8], on: bool, b: bool) -> BitWriter
         ensures { Puts (flag_if on) out.old self b out.new result }
     {
@@ -158,6 +164,7 @@ impl BitWriter {
     }
 
     // A number stored less one, in its long or short form, where the flag says so; else no bits, for 0.
+    #[tactic(auto, using(crate::specs::WriterLaws::formats))]
     pub fn minus1_if(
         self,
         out: &mut [u8],
@@ -175,43 +182,34 @@ impl BitWriter {
         }
     }
 
-    // The first n bytes of a slice.
-    pub fn bytes(self, out: &mut [u8], s: &[u8], n: usize) -> BitWriter
-        requires { n ≤ length s.now }
-        ensures fed { Fed out.old self (bits_of (take n s.now)) out.new result }
+    // The bytes of a slice.
+    pub fn bytes(self, out: &mut [u8], s: &[u8]) -> BitWriter
+        ensures fed { Fed out.old self (bits_of s.now) out.new result }
         ensures fits_as_before { fits result ≡ fits self }
+        ensures format { Puts (bytes (length s.now)) out.old self s.now out.new result }
     {
         let mut w = self;
-        for &x in &s[..n] {
-            w = w.feed(out, 8, x as usize);
+        for &x in s {
+            w = w.feed(out, 8, usize::from(x));
         }
         w
-    }
-
-    // All bytes of a slice where the flag says so; else no bits, for zeros.
-    fn slice_if(self, out: &mut [u8], on: bool, s: &[u8], n: usize) -> BitWriter
-        requires { n ≡ length s.now }
-        ensures { Puts (bytes_for on n) out.old self s.now out.new result }
-    {
-        if on {
-            self.bytes(out, s, n)
-        } else {
-            self.test(zeros(s, 0))
-        }
     }
 
     // A body of N bytes where the flag says so; else no bits, for zeros.
     pub fn body_if<const N: usize>(self, out: &mut [u8], on: bool, body: &[u8; N]) -> BitWriter
         ensures { Puts (bytes_for on N) out.old self body.now out.new result }
     {
-        self.slice_if(out, on, body, N)
+        if on {
+            self.bytes(out, body)
+        } else {
+            self.test(all_zero(body))
+        }
     }
 
     // Zero bits up to a byte boundary.
     pub fn align(self, out: &mut [u8]) -> BitWriter
         ensures { Puts (field ((8 - self.at.1 % 8) % 8)) out.old self 0 out.new result }
     {
-        let n = (8 - self.at.1 % 8) % 8;
-        self.put(out, n as u32, 0)
+        self.put(out, self.at.to_boundary() as u32, 0)
     }
 }

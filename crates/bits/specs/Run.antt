@@ -6,11 +6,16 @@ use Rattle.std.proofs.Math.Path.{ap}
 use Rattle.std.proofs.lemmas.Bool.{false≢true}
 use Rattle.bits.specs.State.{State, is_reading_refusal, ahead, ahead_if, part, part_if, bytes_if, read_bits, read_bytes, refuse_if, test}
 use Rattle.bits.specs.Format.{Format, field, bytes, flag, minus1, offset, choose, view, ensure, exactly, ◌>>=◌, ◌>>◌}
+use Rattle.bits.specs.declared.BitPos.{BitPos}
 use Rattle.bits.specs.declared.Bits.{Bits}
 
--- the state that the code's reader holds: the whole bytes passed and the bits of the next, as one place
+-- a place in bits: those of the whole bytes passed, and those of the next
+abbrev pub bit_index : BitPos → ℕ
+bit_index at = at.0 * 8 + at.1
+
+-- the state that the code's reader holds
 unfoldable pub state : Bits → State
-state b = record { at = b.at.0 * 8 + b.at.1; refusal = b.refusal }
+state b = record { at = bit_index b.at; refusal = b.refusal }
 
 -- reading by p from b on gives a, and goes on from c
 pub record Run {A : Type 0} (p : Format A) (s : List ℕ) (b : State) (a : A) (c : State) : Type 0 where

@@ -80,6 +80,10 @@ part-lt s p j =
     let x = take j (drop p (bits_of s)) in
     lt_of_lt_of_le (val-lt x) (pow_mono (simp length-take (omega arith)))
 
+-- a number of the widest of the fields that hold sizes
+pub pow_28 : (n : ℕ) → n ≤ 28 → 2 ^ n ≤ 268435456
+pow_28 n h = pow_mono {j = 28} h
+
 -- one bit, out of the byte that it lies in
 pub bit_part : (d : List ℕ) (i a p : ℕ) → a < 8 → i * 8 + a ≡ p → p + 1 ≤ 8 * length d → get_or d i 0 / 2 ^ (7 - a) % 2 ≡ part d p 1
 bit_part d i a p h e g =
@@ -233,14 +237,18 @@ zeros_join (suc k) zero h = absurd (omega arith)
 zeros_join (suc k) (suc n) h =
     ap (λ (l : List ℕ). 0 ∷ l) (zeros_join k n (omega arith) ∙ ap (λ (m : ℕ). zeros k ++ zeros m) (sym (suc-sub-suc n k)))
 
+pub take-zeros : (m n : ℕ) → take m (zeros n) ≡ zeros (length (take m (zeros n)))
+take-zeros zero n = refl
+take-zeros (suc m) zero = refl
+take-zeros (suc m) (suc n) = ap (λ (l : List ℕ). 0 ∷ l) (take-zeros m n)
+
 pub zeros-length : (k m n : ℕ) → m ≡ k → k ≤ n → length (take m (zeros n)) ≡ k
 zeros-length k m n e h = ap (λ (j : ℕ). length (take j (zeros n))) e ∙ length-take-le k (zeros n) (simp length-replicate (omega arith))
 
-pub body_put : (d : List ℕ) (p k m n first : ℕ) (l : List ℕ) → m ≡ k → k ≤ n → l ≡ bytes_at d p (length (take m (zeros n)))
-    → first ∷ (l ++ drop m (zeros n)) ≡ first ∷ (bytes_at d p k ++ zeros (n - k))
-body_put d p k m n first l e h g =
-    ap₂ (λ (x y : List ℕ). first ∷ (x ++ y)) (g ∙ ap (bytes_at d p) (zeros-length k m n e h))
-    (ap (λ (j : ℕ). drop j (zeros n)) e ∙ zeros-drop k n)
+pub body_put : (k m n first : ℕ) {l body : List ℕ} → m ≡ k → l ≡ body → length body ≡ k
+    → first ∷ (l ++ drop m (zeros n)) ≡ first ∷ (body ++ zeros (n - length body))
+body_put k m n first e g h =
+    ap₂ (λ (x y : List ℕ). first ∷ (x ++ y)) g (ap (λ (j : ℕ). drop j (zeros n)) (e ∙ sym h) ∙ zeros-drop _ n)
 
 length_read' : (t : Bool) (s : List ℕ) (p n : ℕ) → length (bytes_if t s p n) ≡ n
 length_read' true s p n = length-bytes s p n

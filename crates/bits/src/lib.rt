@@ -2,16 +2,43 @@
 // call. Once a read is refused, every later read gives 0 and the same state.
 #![tactic(auto)]
 
-ghost use Rattle.std.specs.Prelude.{◌≡◌, ◌∷◌, ◌++◌, ◌+◌, ◌-◌, ◌*◌, ◌^◌, ◌≤◌, ◌<◌, true, ◌&&◌, ◌||◌, eqb, leb, get_or, length, replicate};
-ghost use Rattle.bits.specs.State.{clean, ahead, part, bytes_at, bytes_if, read_bytes, test};
-ghost use Rattle.bits.specs.ReadError.{number};
-ghost use Rattle.bits.specs.Format.{field, flag, field_if, flag_if, minus1_if, sized, bytes_for, padded37};
-ghost use Rattle.bits.specs.Run.{state, Run};
+ghost use Rattle.std.specs.Prelude.{◌≡◌, ◌+◌, ◌-◌, ◌*◌, ◌/◌, ◌%◌, ◌^◌, ◌≤◌, ◌<◌, true, T, MatchResult, eqb, leb, get_or, length, replicate};
+ghost use Rattle.bits.specs.State.{is_reading_state, clean, ahead, part, read_bytes, test};
+ghost use Rattle.bits.specs.ReadError.{number, number_not_zero};
+ghost use Rattle.bits.specs.Format.{field, flag, bytes, field_if, flag_if, minus1_if, sized, bytes_for, padded37};
+ghost use Rattle.bits.specs.Run.{bit_index, state, Run};
 ghost use Rattle.bits.specs.Window.{window_at};
 
-// A place counted in bits: the whole bytes passed, and the bits of the next one. So every place within a slice is a BitPos.
-#[derive(Clone, Copy)]
+use refusals::Refusal;
+
+// A place counted in bits: the whole bytes passed, and the bits of the next one. So every place within a slice is a BitPos. Callers may give any
+// two numbers, so the second may be eight or more.
+#[derive(Clone, Copy, Debug, PartialEq, Eq)]
 pub struct BitPos(pub usize, pub usize);
+
+impl BitPos {
+    // The byte that it lies in.
+    pub fn byte(self) -> usize
+        requires { self.0 + self.1 / 8 ≤ 18446744073709551615 }
+        ensures { result ≡ self.0 + self.1 / 8 }
+    {
+        self.0 + self.1 / 8
+    }
+
+    // The bits of that byte before it.
+    pub fn bit(self) -> usize
+        ensures { result ≡ self.1 % 8 }
+    {
+        self.1 % 8
+    }
+
+    // The bits up to the next byte boundary.
+    pub fn to_boundary(self) -> usize
+        ensures { result ≡ (8 - self.1 % 8) % 8 }
+    {
+        (8 - self.bit()) % 8
+    }
+}
 
 // Why a payload is refused.
 #[derive(Clone, Copy, Debug, PartialEq, Eq)]
@@ -28,18 +55,24 @@ pub enum ReadError {
     ChunkPastEnd = 9,
 }
 
-impl ReadError {
-    // The number of the refusal.
-    pub fn number(self) -> u8
-        ensures { result ≡ number self }
-    {
+impl Refusal for ReadError {
+    ghost number = { number };
+
+    ghost not_zero = { number_not_zero };
+
+    fn number(self) -> u8 {
         self as u8
+    }
+
+    fn needed(self) -> usize {
+        0
     }
 }
 
 // A reader's state: the bit that comes next, and the number of the refusal met so far (0: none), each of 64 bits. Reading takes 7 parts in 100
 // longer with an Option of an enum as the refusal, and up to 2.5 times as long where each read gives a Result in place of it.
-#[derive(Clone, Copy)]
+// The payload is no field: each read would have to promise that it leaves the same payload, and each sequence of reads to use that.
+#[derive(Clone, Copy, Debug, PartialEq, Eq)]
 pub struct Bits {
     pub at: BitPos,
     pub refusal: usize,
@@ -48,22 +81,16 @@ pub struct Bits {
 // Whether n bits from a place lie within the data.
 fn room(data: &[u8], at: BitPos, n: usize) -> bool
     requires { n ≤ 512 }
-    ensures { result ≡ leb (at.0 * 8 + at.1 + n) (8 * length «data».now) }
+    ensures { result ≡ leb (bit_index at + n) (8 * length «data».now) }
 {
-    let Some(rest) = data.len().checked_sub(at.0) else {
-        return false;
-    };
-    let Some(rest) = rest.checked_sub(at.1 / 8) else {
-        return false;
-    };
-    (at.1 % 8 + n).div_ceil(8) <= rest
+    at.0 <= data.len() && at.byte() + (at.bit() + n).div_ceil(8) <= data.len()
 }
 
 // The byte at i, or 0 past the end.
 fn byte_at(data: &[u8], i: usize) -> u8
     ensures { result ≡ get_or «data».now i 0 }
 {
-    if i < data.len() { data[i] } else { 0 }
+    data.get(i).copied().unwrap_or(0)
 }
 
 // The five bytes from byte i, as one number. A sum in place of `from_be_bytes`, which costs a tenth of the time of reading: its bytes pass
@@ -82,11 +109,11 @@ fn window(data: &[u8], i: usize) -> u64
 // The number that n bits from a place write.
 fn field(data: &[u8], at: BitPos, n: u32) -> u32
     requires width { n ≤ 32 }
-    requires room { at.0 * 8 + at.1 + n ≤ 8 * length «data».now }
-    ensures { result ≡ part «data».now (at.0 * 8 + at.1) n }
+    requires room { bit_index at + n ≤ 8 * length «data».now }
+    ensures { result ≡ part «data».now (bit_index at) n }
 {
-    let w = window(data, at.0 + at.1 / 8);
-    let a = (at.1 % 8) as u32;
+    let w = window(data, at.byte());
+    let a = at.bit() as u32;
     let high = w >> (40 - a - n);
     let size: u64 = 1 << n;
     (high % size) as u32
@@ -94,46 +121,11 @@ fn field(data: &[u8], at: BitPos, n: u32) -> u32
 
 // Whether the bit at a place is 1.
 fn bit_at(data: &[u8], at: BitPos) -> bool
-    requires { at.0 * 8 + at.1 + 1 ≤ 8 * length «data».now }
-    ensures { result ≡ eqb (part «data».now (at.0 * 8 + at.1) 1) 1 }
+    requires { bit_index at + 1 ≤ 8 * length «data».now }
+    ensures { result ≡ eqb (part «data».now (bit_index at) 1) 1 }
 {
-    let high = data[at.0 + at.1 / 8] >> (7 - at.1 % 8);
+    let high = data[at.byte()] >> (7 - at.bit());
     high % 2 == 1
-}
-
-// Fills out with the bytes from a place on.
-fn fill(out: &mut [u8], data: &[u8], at: BitPos)
-    requires { at.0 * 8 + at.1 + 8 * length out.old ≤ 8 * length «data».now }
-    ensures { out.new ≡ bytes_at «data».now (at.0 * 8 + at.1) (length out.old) }
-{
-    for (i, b) in out.iter_mut().enumerate() {
-        *b = field(data, BitPos(at.0 + i, at.1), 8) as u8;
-    }
-}
-
-fn body<const N: usize>(data: &[u8], at: BitPos, here: bool) -> [u8; N]
-    requires { here ≡ true → at.0 * 8 + at.1 + 8 * N ≤ 8 * length «data».now }
-    ensures { result ≡ bytes_if here «data».now (at.0 * 8 + at.1) N }
-{
-    let mut bytes = [0; N];
-    if here {
-        fill(&mut bytes, data, at);
-    }
-    bytes
-}
-
-// A byte, k bytes from a place, and zeros up to 37 bytes.
-fn body37(data: &[u8], at: BitPos, here: bool, first: u8, k: usize) -> [u8; 37]
-    requires k_bound { k ≤ 36 }
-    requires room { here ≡ true → at.0 * 8 + at.1 + 8 * k ≤ 8 * length «data».now }
-    ensures { result ≡ first ∷ (bytes_if here «data».now (at.0 * 8 + at.1) k ++ replicate (36 - k) 0) }
-{
-    let mut bytes = [0u8; 37];
-    bytes[0] = first;
-    if here {
-        fill(&mut bytes[1..k + 1], data, at);
-    }
-    bytes
 }
 
 // The widths of a field in its long form and in its short one.
@@ -170,24 +162,14 @@ impl Bits {
     fn ahead(self, data: &[u8], n: usize) -> (bool, Bits)
         requires { n ≤ 512 }
         ensures ahead { ahead «data».now (state self) n ≡ (result.0, state result.1) }
-        ensures room { result.0 ≡ true → self.at.0 * 8 + self.at.1 + n ≤ 8 * length «data».now }
+        ensures room { result.0 ≡ true → bit_index self.at + n ≤ 8 * length «data».now }
     {
-        if self.refusal != 0 {
-            return (false, self);
-        }
-        let BitPos(byte, bit) = self.at;
-        if room(data, self.at, n) {
-            let end = bit % 8 + n;
-            let at = BitPos(byte + bit / 8 + end / 8, end % 8);
-            (true, Bits { at, refusal: 0 })
+        if self.refusal == 0 && room(data, self.at, n) {
+            let end = self.at.bit() + n;
+            let at = BitPos(self.at.byte() + end / 8, end % 8);
+            (true, Bits { at, ..self })
         } else {
-            (
-                false,
-                Bits {
-                    refusal: ReadError::Truncated as usize,
-                    ..self
-                },
-            )
+            (false, self.test(false, ReadError::Truncated))
         }
     }
 
@@ -242,6 +224,7 @@ impl Bits {
     }
 
     // A size of a long or a short form, where it stands at all; else 0.
+    #[tactic(auto, using(crate::specs::Window::pow_28))]
     pub fn size_if(self, data: &[u8], on: bool, large: bool, widths: Widths) -> (usize, Bits)
         ensures run { Run (field_if on (sized large widths.long widths.short)) «data».now (state self) result.0 (state result.1) }
         ensures value_bound { result.0 ≤ 268435456 }
@@ -255,25 +238,17 @@ impl Bits {
     }
 
     // A number stored less one in a field of a long or a short form, where it stands at all; else 0.
-    pub fn minus1_if(self, data: &[u8], on: bool, large: bool, widths: Widths) -> (u32, Bits)
+    #[tactic(auto, using(crate::specs::Window::pow_28))]
+    pub fn minus1_if(self, data: &[u8], on: bool, large: bool, widths: Widths) -> (usize, Bits)
         ensures run { Run (minus1_if on (sized large widths.long widths.short)) «data».now (state self) result.0 (state result.1) }
         ensures value_bound { result.0 ≤ 268435456 }
     {
         if on {
             let (value, next) = self.read(data, widths.of(large));
-            (value + 1, next)
+            (value as usize + 1, next)
         } else {
             (0, self)
         }
-    }
-
-    // A size that is stored less one.
-    pub fn size_minus1_if(self, data: &[u8], on: bool, large: bool, widths: Widths) -> (usize, Bits)
-        ensures run { Run (minus1_if on (sized large widths.long widths.short)) «data».now (state self) result.0 (state result.1) }
-        ensures value_bound { result.0 ≤ 268435456 }
-    {
-        let (value, next) = self.minus1_if(data, on, large, widths);
-        (value as usize, next)
     }
 
     // The state after a test: the refusal where it fails and none was met before.
@@ -291,16 +266,34 @@ impl Bits {
         }
     }
 
+    // Fills out with bytes as one field: it keeps its zeros where they are not there.
+    fn fill(self, data: &[u8], out: &mut [u8]) -> Bits
+        requires size_bound { length out.old ≤ 64 }
+        requires zeros { out.old ≡ replicate (length out.old) 0 }
+        ensures { Run (bytes (length out.old)) «data».now (state self) out.new (state result) }
+    {
+        let (here, next) = self.ahead(data, 8 * out.len());
+        if !here {
+            return next;
+        }
+        let BitPos(byte, bit) = self.at;
+        for (i, b) in out.iter_mut().enumerate() {
+            *b = field(data, BitPos(byte + i, bit), 8) as u8;
+        }
+        next
+    }
+
     // N bytes as one field, where the flag says so; else zeros.
     pub fn body_if<const N: usize>(self, data: &[u8], on: bool) -> ([u8; N], Bits)
         requires { N ≤ 64 }
         ensures { Run (bytes_for on N) «data».now (state self) result.0 (state result.1) }
     {
+        let mut body = [0; N];
         if on {
-            let (here, next) = self.ahead(data, 8 * N);
-            (body(data, self.at, here), next)
+            let next = self.fill(data, &mut body);
+            (body, next)
         } else {
-            ([0; N], self)
+            (body, self)
         }
     }
 
@@ -310,7 +303,25 @@ impl Bits {
         ensures value { result.0 ≡ padded37 (first, (read_bytes «data».now (state self) k).0) }
         ensures next { state result.1 ≡ (read_bytes «data».now (state self) k).1 }
     {
-        let (here, next) = self.ahead(data, 8 * k);
-        (body37(data, self.at, here, first, k), next)
+        let mut body = [0; 37];
+        body[0] = first;
+        let next = self.fill(data, &mut body[1..=k]);
+        (body, next)
+    }
+
+    // The place, or the refusal met.
+    #[tactic(auto, using(std::proofs::lemmas::Bool::Decides::nat_tests), unfolding(crate::specs::Run::state))]
+    pub fn place(self) -> Result<BitPos, ReadError>
+        requires { T (is_reading_state (state self)) }
+        ensures { MatchResult result (λ at. (self.refusal ≡ 0) × (at ≡ self.at)) (λ e. self.refusal ≡ number e) }
+    {
+        match self.refusal {
+            0 => Ok(self.at),
+            5 => Err(ReadError::Truncated),
+            6 => Err(ReadError::Version),
+            7 => Err(ReadError::FloatDepth),
+            8 => Err(ReadError::TrailingBits),
+            _ => Err(ReadError::ChunkPastEnd),
+        }
     }
 }

@@ -7,8 +7,9 @@
 --
 -- The payload is what follows, up to the box's end.
 use Rattle.std.specs.Prelude.{◌≡◌, cond, List, ℕ, ◌+◌, ◌-◌, leb, ltb, eqb, length, Option, Some, None, Result, Ok, Err}
-use Rattle.std.proofs.Common.{arith}
+use Rattle.std.proofs.Common.{arith, rules}
 use Rattle.octets.specs.BigEndian.{num}
+use Rattle.refusals.specs.Outcome.{refusal_in}
 use Rattle.boxes.specs.Size.{size_at}
 use Rattle.boxes.specs.declared.BoxHeader.{BoxHeader}
 use Rattle.boxes.specs.declared.BoxSize.{BoxSize}
@@ -30,10 +31,7 @@ number TruncatedUserType = 4
 
 -- none is 0
 pub number_not_zero : (e : HeaderError) → number e ≡ 0 → ⊥
-number_not_zero TruncatedHeader z = omega arith
-number_not_zero TruncatedLargesize z = omega arith
-number_not_zero SizeOutOfRange z = omega arith
-number_not_zero TruncatedUserType z = omega arith
+number_not_zero e = search (rules, arith)
 
 -- all zeros, without extended type
 abbrev pub blank : BoxHeader
@@ -41,8 +39,7 @@ blank = record { box_type = 0; user_type = None; start = 0; payload_start = 0; p
 
 -- what reading a header hands out as a number and a header: 0 and the header, or the refusal's number and the blank header
 abbrev pub header_refusal : Result BoxHeader HeaderError → ℕ
-header_refusal (Ok h) = 0
-header_refusal (Err e) = number e
+header_refusal = refusal_in number
 
 abbrev pub header_or_blank : Result BoxHeader HeaderError → BoxHeader
 header_or_blank (Ok h) = h

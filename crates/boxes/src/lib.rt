@@ -4,18 +4,39 @@
 pub mod find;
 
 ghost use Rattle.std.specs.Prelude.{◌≡◌, ◌+◌, ◌≤◌, ◌<◌, length};
+ghost use Rattle.octets.specs.BigEndian.{be, num};
 ghost use Rattle.octets.specs.Overwrite.{Wrote};
 ghost use Rattle.octets.specs.Part.{Part};
-ghost use Rattle.boxes.specs.Header.{header_at, typed_at, number, user_type_at};
+ghost use Rattle.octets.specs.OverwriteLaws.{lent, returned};
+ghost use Rattle.std.specs.Fn.{FnOnceReturnsAtMut, FnOnceTakesAtMut};
+ghost use Rattle.boxes.specs.Header.{header_at, typed_at, number, number_not_zero, user_type_at};
 ghost use Rattle.boxes.specs.Size.{size_at, large_size_at, bounded, InBuffer};
 ghost use Rattle.boxes.specs.Boxed.{HeaderPut, full_box_header};
 
-use octets::{get, part, put, put_u8};
+use octets::{Span, get, part, put, put_u8};
+use refusals::Refusal;
 
 // A four-character code, its first character the highest byte.
 pub type FourCc = u32;
 
 pub const UUID: FourCc = 0x75756964;
+
+// The length of a header that is a size and a type.
+pub const BOX_HEADER_LEN: usize = 8;
+
+pub fn get_four_cc(s: &[u8], at: usize) -> FourCc
+    requires { at + 4 ≤ length s.now }
+    ensures { result ≡ num 4 s.now at }
+{
+    get::<4>(s, at) as u32
+}
+
+pub fn put_four_cc(out: &mut [u8], at: usize, code: FourCc) -> usize
+    requires { at + 4 ≤ length out.old }
+    ensures { Wrote out.old at 4 (be 4 code) out.new result }
+{
+    put::<4>(out, at, u64::from(code))
+}
 
 // The extended type of a 'uuid' box: its sixteen bytes as two numbers, the first eight the high one.
 #[derive(Clone, Copy, Debug, PartialEq, Eq)]
@@ -47,12 +68,17 @@ pub enum HeaderError {
     TruncatedUserType = 4,
 }
 
-impl HeaderError {
-    // The number of the refusal.
-    pub fn number(self) -> u8
-        ensures { result ≡ number self }
-    {
+impl Refusal for HeaderError {
+    ghost number = { number };
+
+    ghost not_zero = { number_not_zero };
+
+    fn number(self) -> u8 {
         self as u8
+    }
+
+    fn needed(self) -> usize {
+        0
     }
 }
 
@@ -98,10 +124,10 @@ fn box_size(buf: &[u8], start: usize) -> Result<BoxSize, HeaderError>
     match get::<4>(buf, start) as u32 {
         0 => Ok(BoxSize {
             total: rest,
-            head: 8,
+            head: BOX_HEADER_LEN,
         }),
         1 => large_size(buf, start),
-        size => bounded(8, size as usize, rest),
+        size => bounded(BOX_HEADER_LEN, size as usize, rest),
     }
 }
 
@@ -122,7 +148,7 @@ fn typed_header(buf: &[u8], start: usize, size: BoxSize) -> Result<BoxHeader, He
     requires { InBuffer buf.now start size.total size.head }
     ensures { result ≡ typed_at buf.now start size.total size.head }
 {
-    let box_type = get::<4>(buf, start + 4) as u32;
+    let box_type = get_four_cc(buf, start + 4);
     let mut head = size.head;
     let mut user_type = None;
     if box_type == UUID {
@@ -146,7 +172,7 @@ fn typed_header(buf: &[u8], start: usize, size: BoxSize) -> Result<BoxHeader, He
 pub fn parse_box_header(buf: &[u8], start: usize) -> Result<BoxHeader, HeaderError>
     ensures { result ≡ header_at buf.now start }
 {
-    if buf.len() < 8 || buf.len() - 8 < start {
+    if buf.len() < BOX_HEADER_LEN || buf.len() - BOX_HEADER_LEN < start {
         return Err(HeaderError::TruncatedHeader);
     }
     let size = box_size(buf, start)?;
@@ -157,27 +183,49 @@ pub fn parse_box_header(buf: &[u8], start: usize) -> Result<BoxHeader, HeaderErr
 pub fn payload(buf: &[u8], h: BoxHeader) -> &[u8]
     ensures { Part buf.entry h.payload_start h.payload_len result }
 {
-    part(buf, h.payload_start, h.payload_len)
+    part(
+        buf,
+        Span {
+            at: h.payload_start,
+            len: h.payload_len,
+        },
+    )
 }
 
-// Fills in the header of a box whose body of `len` bytes stands at `at + 8`, and returns the position after the body. The
-// caller has written the body into `&mut out[at + 8..]`, so the length is known only now. Each box has these few lines of its own: with the
-// body's writer as a closure, its clauses would stand at every call.
+// Fills in the header of a box whose body of `len` bytes stands at `at + BOX_HEADER_LEN`, and returns the position after the body.
+#[tactic(auto, using(octets::specs::OverwriteLaws::writes), unfolding(crate::specs::Boxed::box_header))]
 pub fn put_box_header(out: &mut [u8], at: usize, len: usize, box_type: FourCc) -> usize
     requires { (at + 8 + len ≤ length out.old) × (8 + len < 4294967296) }
     ensures { HeaderPut out.old at len box_type out.new result }
 {
-    let size = 8 + len;
+    let size = BOX_HEADER_LEN + len;
     let after = put::<4>(out, at, size as u64);
-    put::<4>(out, after, box_type as u64);
+    put_four_cc(out, after, box_type);
     at + size
 }
 
+// A box: `body` writes its body into the part that follows the header and returns the body's length, by which the header is then filled in.
+pub fn put_boxed<F: FnOnce(&mut [u8]) -> usize>(
+    out: &mut [u8],
+    at: usize,
+    box_type: FourCc,
+    body: F,
+) -> usize
+    requires room { at + 8 ≤ length out.old }
+    requires callable { FnOnceTakesAtMut F.FnOnce body (lent out.old (at + 8)) }
+    requires fits { (n : _) (p : _) → FnOnceReturnsAtMut F.FnOnce body (lent out.old (at + 8)) n p → (at + 8 + n ≤ length out.old) × (8 + n < 4294967296) }
+    ensures { (n : _) × (p : _) × FnOnceReturnsAtMut F.FnOnce body (lent out.old (at + 8)) n p × HeaderPut (returned out.old (at + 8) p) at n box_type out.new result }
+{
+    let n = body(&mut out[at + BOX_HEADER_LEN..]);
+    put_box_header(out, at, n, box_type)
+}
+
 // Version and flags, with which the body of a full box begins.
+#[tactic(auto, using(octets::specs::OverwriteLaws::writes), unfolding(crate::specs::Boxed::full_box_header))]
 pub fn put_full_box_header(out: &mut [u8], at: usize, version: u8, flags: u32) -> usize
     requires { at + 4 ≤ length out.old }
     ensures { Wrote out.old at 4 (full_box_header version flags) out.new result }
 {
     let after = put_u8(out, at, version);
-    put::<3>(out, after, flags as u64)
+    put::<3>(out, after, u64::from(flags))
 }

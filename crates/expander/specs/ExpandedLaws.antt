@@ -17,7 +17,7 @@ use Rattle.mini.specs.Write.{writable}
 use Rattle.mini.specs.declared.MinimizedImage.{MinimizedImage}
 use Rattle.slots.specs.Bounds.{cond_most}
 use Rattle.writer.specs.ToBox.{refused}
-use Rattle.writer.specs.Outcome.{Written}
+use Rattle.refusals.specs.Outcome.{Written}
 use Rattle.mini.specs.RecordHeader.{T_true}
 use Rattle.expander.specs.EquivalentFile.{item_bytes, file}
 use Rattle.expander.specs.EveryByte.{every_byte}

@@ -8,3 +8,4 @@ pub mod LocationsInFile
 pub mod Outcome
 pub mod OutcomeLaws
 pub mod Placed
+pub mod Plan

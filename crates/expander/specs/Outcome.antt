@@ -1,7 +1,7 @@
 -- What expanding answers and leaves in the output, for every record, source, original file type and output (document 01, 'What goes back
 -- when it cannot be done': 10 to 16 in this order).
-use Rattle.std.specs.Prelude.{◌≡◌, Bool, false, not, cond, ◌&&◌, ◌||◌, List, [], ◌∷◌, ℕ, eqb, ltb, length, Option, Some, None, is_some, Result, Ok, Err}
-use Rattle.std.proofs.Common.{arith}
+use Rattle.std.specs.Prelude.{◌≡◌, Bool, false, not, cond, ◌&&◌, ◌||◌, List, [], ◌∷◌, ℕ, eqb, ltb, length, Option, Some, None, is_some, Result}
+use Rattle.std.proofs.Common.{arith, rules}
 use Rattle.octets.specs.Overwrite.{overwrite}
 use Rattle.boxes.specs.Header.{UUID}
 use Rattle.ftyp.specs.FileType.{allowed}
@@ -10,7 +10,8 @@ use Rattle.mini.specs.Write.{writable}
 use Rattle.mini.specs.declared.CodecTypes.{CodecTypes}
 use Rattle.mini.specs.declared.MinimizedImage.{MinimizedImage}
 use Rattle.writer.specs.ToBox.{refused}
-use Rattle.writer.specs.Outcome.{Written}
+use Rattle.refusals.specs.Outcome as any
+use Rattle.refusals.specs.Outcome.{Written, outcome}
 use Rattle.expander.specs.EquivalentFile.{file}
 use Rattle.expander.specs.declared.refusal.ExpandError.{ExpandError}
 use Rattle.expander.specs.declared.refusal.ExpandError.TheVariants.{Misplaced, Unwritable, NativeAlpha, UuidCodecType, NoCodecTypes, BrandList, TooShort}
@@ -28,33 +29,20 @@ number (TooShort needed) = 16
 
 -- none is 0
 pub number_not_zero : (e : ExpandError) → number e ≡ 0 → ⊥
-number_not_zero Misplaced z = omega arith
-number_not_zero Unwritable z = omega arith
-number_not_zero NativeAlpha z = omega arith
-number_not_zero UuidCodecType z = omega arith
-number_not_zero NoCodecTypes z = omega arith
-number_not_zero BrandList z = omega arith
-number_not_zero (TooShort needed) z = omega arith
+number_not_zero e = search (rules, arith)
 
 -- the length that comes with it
 abbrev pub needed_in : ExpandError → ℕ
-needed_in Misplaced = 0
-needed_in Unwritable = 0
-needed_in NativeAlpha = 0
-needed_in UuidCodecType = 0
-needed_in NoCodecTypes = 0
-needed_in BrandList = 0
 needed_in (TooShort needed) = needed
+needed_in _ = 0
 
 -- the refusal's number in an answer, 0 for none
 abbrev pub refusal_in : {A : Type 0} → Result A ExpandError → ℕ
-refusal_in (Ok x) = 0
-refusal_in (Err e) = number e
+refusal_in = any.refusal_in number
 
 -- an answer as a number and a length
 abbrev pub outcome_of : Result ℕ ExpandError → Written
-outcome_of (Ok len) = record { refusal = 0; len = len }
-outcome_of (Err e) = record { refusal = number e; len = needed_in e }
+outcome_of = outcome number needed_in
 
 -- ---- when
 abbrev pub has_native_alpha : MinimizedImage → Bool

@@ -8,14 +8,17 @@ use Rattle.std.proofs.Math.ListN.{length}
 use Rattle.octets.specs.Overwrite.{overwrite, Wrote}
 use Rattle.ftyp.specs.FileType.{file_type, file_type_box}
 use Rattle.ftyp.specs.FileTypeLaws.{allowed_whole, ftyp_is}
-use Rattle.ftyp.specs.declared.FileType.{FileType}
+use Rattle.ftyp.specs.declared.EquivalentFileType.{EquivalentFileType}
 use Rattle.mini.specs.declared.MinimizedImage.{MinimizedImage}
 use Rattle.writer.specs.ToBox.{refused}
-use Rattle.writer.specs.Outcome.{Written}
+use Rattle.refusals.specs.Outcome.{Written}
 use Rattle.expander.specs.EquivalentFile.{meta, mdat, content_start, file_len, file}
+use Rattle.expander.specs.ExpandedLaws.{refusal_most}
 use Rattle.expander.specs.Expands.{expands}
 use Rattle.expander.specs.FileLength.{length_file}
-use Rattle.expander.specs.Outcome.{number, outcome_of, refusal_of, expanded, expanded_len}
+use Rattle.expander.specs.Outcome.{number, number_not_zero, outcome_of, refusal_of, expanded, expanded_len}
+use Rattle.expander.specs.Plan.{file_plan}
+use Rattle.expander.specs.declared.file.FilePlan.{FilePlan}
 use Rattle.expander.specs.declared.refusal.ExpandError.{ExpandError}
 use Rattle.expander.specs.declared.refusal.ExpandError.TheVariants.{Misplaced, Unwritable, NativeAlpha, UuidCodecType, NoCodecTypes, BrandList, TooShort}
 
@@ -50,6 +53,13 @@ module _ (i : MinimizedImage) (s : List ℕ) (major minor : ℕ) (brands : List 
       ap (λ (j : ℕ). record { refusal = 0; len = j }) (f ∙ sym (file_length e))
       ∙ sym (ap (λ (t : Bool). cond t (record { refusal = 0; len = n }) (record { refusal = r; len = 0 })) (eq-eqb r 0 e))
 
+  -- an error that the checks gave, and what is planned where they gave none
+  pub len_refused : (e : ExpandError) → number e ≡ r → outcome_of (Err e) ≡ expanded_len i s major minor brands
+  len_refused e h = refused_of e h (refusal_most i s brands) ∙ length_refused (λ z. number_not_zero e (h ∙ z))
+
+  pub len_planned : {p : FilePlan} → 0 ≡ r → p ≡ file_plan i major minor brands → record { refusal = 0; len = p.len } ≡ expanded_len i s major minor brands
+  len_planned z h = length_told (sym z) (ap (λ (q : FilePlan). q.len) h)
+
   module _ (out : List ℕ) where
     abbrev done : Written × List ℕ
     done = (record { refusal = 0; len = n }, overwrite out 0 (file i s major minor brands))
@@ -57,6 +67,9 @@ module _ (i : MinimizedImage) (s : List ℕ) (major minor : ℕ) (brands : List 
     pub expand-refused : (r ≡ 0 → ⊥) → refused r 0 out ≡ expanded i s major minor brands out
     unfolding expanded
     expand-refused h = sym (ap (λ (t : Bool). cond t (cond (ltb (length out) n) (refused 16 n out) done) (refused r 0 out)) (ne_eqb r 0 h))
+
+    pub out_refused : (e : ExpandError) → number e ≡ r → (outcome_of (Err e), out) ≡ expanded i s major minor brands out
+    out_refused e h = ap (λ (w : Written). (w, out)) (refused_of e h (refusal_most i s brands)) ∙ expand-refused (λ z. number_not_zero e (h ∙ z))
 
     pub expand-short : {k : ℕ} → r ≡ 0 → k ≡ file_len i major minor brands → length out < k → refused 16 k out ≡ expanded i s major minor brands out
     unfolding expanded
@@ -67,7 +80,7 @@ module _ (i : MinimizedImage) (s : List ℕ) (major minor : ℕ) (brands : List 
         (ap₂ (λ (t u : Bool). cond t (cond u (refused 16 n out) done) (refused r 0 out)) (eq-eqb r 0 e)
         (lt-ltb (length out) n (subst (λ (j : ℕ). length out < j) g h)))
 
-    pub expand-done : {k m q base : ℕ} {t : FileType} {out' : List ℕ} → r ≡ 0 → k ≡ file_len i major minor brands → k ≤ length out
+    pub expand-done : {k m q base : ℕ} {t : EquivalentFileType} {out' : List ℕ} → r ≡ 0 → k ≡ file_len i major minor brands → k ≤ length out
         → t ≡ file_type major minor i.has_gain_map brands → base ≡ content_start i major minor brands
         → Wrote out 0 m (file_type_box t brands ++ meta i s base ++ mdat i s) out' q
         → ◌≡◌ {A = Written × List ℕ} (record { refusal = 0; len = k }, out') (expanded i s major minor brands out)
@@ -77,7 +90,7 @@ module _ (i : MinimizedImage) (s : List ℕ) (major minor : ℕ) (brands : List 
         let x = expands i s brands e in
         let b : out' ≡ overwrite out 0 (file i s major minor brands) =
         w.left
-        ∙ ap₂ (λ (z : FileType) (y : ℕ). overwrite out 0 (file_type_box z brands ++ meta i s y ++ mdat i s)) et eb
+        ∙ ap₂ (λ (z : EquivalentFileType) (y : ℕ). overwrite out 0 (file_type_box z brands ++ meta i s y ++ mdat i s)) et eb
         ∙ ap (λ (z : List ℕ). overwrite out 0 (z ++ meta i s (content_start i major minor brands) ++ mdat i s))
         (ftyp_is major minor i.has_gain_map brands (allowed_whole brands x.brands_allowed)) in
         ap₂ (λ (j : ℕ) (z : List ℕ). (record { refusal = 0; len = j }, z)) g b

@@ -1,7 +1,7 @@
 -- What the writers of a file need of a record and its source; every record that is well placed and can be written has it. Assumes nothing.
 use Rattle.std.specs.Prelude.{◌≡◌, refl, Bool, true, false, not, ◌&&◌, ◌||◌, List, [], ◌∷◌, ◌++◌, ℕ, ◌+◌, ◌≤◌, T, length, Option, Some, None}
 use Rattle.std.proofs.lemmas.Bool.{false≢true}
-use Rattle.std.proofs.Common.{arith, leb→le, length-append}
+use Rattle.std.proofs.Common.{sym, subst, arith, leb→le, length-append}
 use Rattle.bits.specs.Format.{and_split}
 use Rattle.items.specs.ItemBytes.{lengths_of}
 use Rattle.items.specs.ItemGroup.{grpl_most}
@@ -13,7 +13,7 @@ use Rattle.mini.specs.NoPayloadGives.{lawful}
 use Rattle.mini.specs.Same.{chunk_len, chunk_bytes, span_bytes, chunk_in, span_in, gain_in, well_placed}
 use Rattle.mini.specs.Write.{writable}
 use Rattle.mini.specs.declared.MinimizedImage.{MinimizedImage}
-use Rattle.mini.specs.declared.Span.{Span}
+use Rattle.octets.specs.declared.Span.{Span}
 use Rattle.slots.specs.Bounds.{iprp_most}
 use Rattle.slots.specs.LengthLaws.{length_span}
 use Rattle.slots.specs.Sound.{SpanPlaced, ChunkPlaced, Bounded, Sound, placed_of, sound}
@@ -94,6 +94,9 @@ fit i s p w =
             xmp = l.xmp_size;
           };
     }
+
+pub fit_of : (i : MinimizedImage) (s : List ℕ) → well_placed i s ≡ true → writable i ≡ true → Fit i s
+fit_of i s p w = fit i s (subst T (sym p) tt) (subst T (sym w) tt)
 
 -- mdat's content is at most 808,452,094 bytes
 pub content_most : (i : MinimizedImage) → DataBounded i → data_len (data_lengths i) ≤ 808452094

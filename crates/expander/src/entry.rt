@@ -1,110 +1,75 @@
 // Expanding, for every record, source, original file type and output.
 ghost use Rattle.std.specs.Prelude.{◌≡◌, true, ◌+◌, ◌≤◌, ◌<◌, take, IfOk};
-ghost use Rattle.ftyp.specs.FileType.{allowed, file_type, file_type_len};
-ghost use Rattle.items.specs.ItemLocations.{data_len};
+ghost use Rattle.ftyp.specs.FileType.{allowed, file_type_len};
 ghost use Rattle.slots.specs.Sound.{Bounded};
-ghost use Rattle.expander.specs.EquivalentFile.{item_bytes, data_lengths, meta_body_len, content_start, file_len};
+ghost use Rattle.expander.specs.EquivalentFile.{item_bytes, meta_body_len};
 ghost use Rattle.expander.specs.LocationsInFile.{EveryByte};
+ghost use Rattle.expander.specs.Placed.{DataBounded, Fit};
+ghost use Rattle.expander.specs.Plan.{file_plan};
 ghost use Rattle.expander.specs.Outcome.{refusal_in, refusal_of, outcome_of, expanded, expanded_len};
 
-use crate::file::{meta_body_len, put_file};
+use crate::file::{FilePlan, meta_body_len, put_file};
 use crate::item_data::data_lengths;
 use crate::refusal::{ExpandError, check};
-use boxes::FourCc;
-use ftyp::{FileType, equivalent_file_type, ftyp_len};
-use items::DataLengths;
+use ftyp::{EquivalentFileType, FileType, equivalent_file_type, ftyp_len};
 use mini::MinimizedImage;
 
-fn data_len(l: DataLengths) -> usize
-    requires { data_len l < 4294967296 }
-    ensures { result ≡ data_len l }
-{
-    l.alpha + l.tone_map + l.gain_map + l.main + l.exif + l.xmp
-}
-
 // Where mdat's content begins.
-fn content_start(image: MinimizedImage, t: FileType, brands: &[u8], l: DataLengths) -> usize
-    requires { (Bounded image × (allowed brands.now ≡ true)) × (l ≡ data_lengths image) }
+fn content_start(image: MinimizedImage, t: EquivalentFileType, brands: &[u8]) -> usize
+    requires { Bounded image × (DataBounded image × (allowed brands.now ≡ true)) }
     ensures { (result ≡ file_type_len t brands.now + (8 + meta_body_len image) + 8) × (result ≤ 2116000) }
 {
-    ftyp_len(t, brands) + (8 + meta_body_len(image, l)) + 8
+    ftyp_len(t, brands) + (8 + meta_body_len(image, data_lengths(image))) + 8
 }
 
-// What is known of a file before it is written: its file type, how many bytes each item has, where they begin, and how long it is.
-#[derive(Clone, Copy)]
-struct FilePlan {
-    file_type: FileType,
-    lengths: DataLengths,
-    content_start: usize,
-    len: usize,
-}
-
-fn plan(
-    image: MinimizedImage,
-    source: &[u8],
-    major: FourCc,
-    minor: u32,
-    brands: &[u8],
-) -> Result<FilePlan, ExpandError>
-    ensures refusal { refusal_in result ≡ refusal_of image source.now brands.now }
-    ensures file_type { IfOk result (λ p. p.file_type ≡ file_type major minor image.has_gain_map brands.now) }
-    ensures lengths { IfOk result (λ p. p.lengths ≡ data_lengths image) }
-    ensures content_start { IfOk result (λ p. p.content_start ≡ content_start image major minor brands.now) }
-    ensures len { IfOk result (λ p. p.len ≡ file_len image major minor brands.now) }
+#[tactic(auto, using(crate::specs::Placed::content_most))]
+fn plan(image: MinimizedImage, source: &[u8], original: FileType) -> Result<FilePlan, ExpandError>
+    ensures refusal { refusal_in result ≡ refusal_of image source.now original.entry.compatible_brands.now }
+    ensures plan { let t = original.entry in IfOk result (λ p. p ≡ file_plan image t.major_brand t.minor_version t.compatible_brands.now) }
     ensures bound { IfOk result (λ p. p.content_start ≤ 2116000) }
+    ensures fit { IfOk result (λ _. Fit image source.now) }
+    ensures allowed { IfOk result (λ _. allowed original.entry.compatible_brands.now ≡ true) }
 {
-    check(image, source, brands)?;
-    let file_type = equivalent_file_type(major, minor, image.has_gain_map, brands);
-    let lengths = data_lengths(image);
-    let content_start = content_start(image, file_type, brands, lengths);
+    check(image, source, original.compatible_brands)?;
+    let file_type = equivalent_file_type(original, image.has_gain_map);
+    let content_start = content_start(image, file_type, original.compatible_brands);
     Ok(FilePlan {
         file_type,
-        lengths,
         content_start,
-        len: content_start + data_len(lengths),
+        len: content_start + data_lengths(image).total(),
     })
 }
 
 // The length of the equivalent file: what `equivalent_file` needs, without an output.
+#[tactic(auto, using(crate::specs::OutcomeLaws::len_refused, crate::specs::OutcomeLaws::len_planned))]
 pub fn equivalent_file_len(
     image: MinimizedImage,
     source: &[u8],
-    major: FourCc,
-    minor: u32,
-    brands: &[u8],
+    original: FileType,
 ) -> Result<usize, ExpandError>
-    ensures { outcome_of result ≡ expanded_len image source.now major minor brands.now }
+    ensures { let t = original.entry in outcome_of result ≡ expanded_len image source.now t.major_brand t.minor_version t.compatible_brands.now }
 {
-    let plan = plan(image, source, major, minor, brands)?;
+    let plan = plan(image, source, original)?;
     Ok(plan.len)
 }
 
-// The equivalent file of a record whose chunks lie in `source`, from the output's first byte on; its length. `major`, `minor` and `brands`
-// are those of the original file type.
+// The equivalent file of a record whose chunks lie in `source`, from the output's first byte on; its length. `original` is the file type of
+// the file that the record comes from.
+#[tactic(auto, using(crate::specs::Placed::content_most))]
 pub fn equivalent_file(
     image: MinimizedImage,
     source: &[u8],
-    major: FourCc,
-    minor: u32,
-    brands: &[u8],
+    original: FileType,
     out: &mut [u8],
 ) -> Result<usize, ExpandError>
-    ensures answer { (outcome_of result, out.new) ≡ expanded image source.now major minor brands.now out.old }
+    ensures answer { let t = original.entry in (outcome_of result, out.new) ≡ expanded image source.now t.major_brand t.minor_version t.compatible_brands.now out.old }
     ensures every_byte { IfOk result (λ len. EveryByte (item_bytes image source.now) (take len out.new)) }
     ensures bounds { ((outcome_of result).refusal ≤ 16) × ((outcome_of result).len < 4294967296) }
 {
-    let plan = plan(image, source, major, minor, brands)?;
+    let plan = plan(image, source, original)?;
     if out.len() < plan.len {
         return Err(ExpandError::TooShort { needed: plan.len });
     }
-    put_file(
-        out,
-        image,
-        source,
-        plan.file_type,
-        brands,
-        plan.lengths,
-        plan.content_start,
-    );
+    put_file(out, image, source, original.compatible_brands, plan);
     Ok(plan.len)
 }

@@ -1,20 +1,20 @@
-// The boxes of the file, and how long they are.
+// The boxes of the file, and how long they are. `Fit image source` stands in the contracts for the reason that `Bounded image` does in `slots`.
 ghost use Rattle.std.specs.Prelude.{◌≡◌, true, ◌++◌, ◌+◌, ◌≤◌, ◌<◌, length};
 ghost use Rattle.octets.specs.Overwrite.{Wrote};
 ghost use Rattle.ftyp.specs.FileType.{allowed, file_type_len, file_type_box};
 ghost use Rattle.items.specs.ItemLocations.{data_len};
-ghost use Rattle.slots.specs.Sound.{Bounded, Sound};
+ghost use Rattle.slots.specs.Sound.{Bounded};
 ghost use Rattle.expander.specs.EquivalentFile.{item_set, data_lengths, item_boxes, item_boxes_len, meta_body, meta_body_len, meta, mdat};
-ghost use Rattle.expander.specs.Placed.{DataPlaced, Fit};
+ghost use Rattle.expander.specs.Placed.{Fit};
 
-use crate::item_data::put_item_data;
-use boxes::{FourCc, put_box_header, put_full_box_header};
-use ftyp::{FileType, put_ftyp};
+use crate::item_data::{data_lengths, put_item_data};
+use boxes::{FourCc, put_boxed, put_full_box_header};
+use ftyp::{EquivalentFileType, put_ftyp};
 use items::group::{grpl_len, put_grpl};
 use items::info::{iinf_len, put_iinf};
 use items::locations::{iloc_len, put_iloc};
 use items::references::{iref_len, put_iref};
-use items::{DataLengths, ItemSet, put_hdlr, put_pitm};
+use items::{DataLengths, HDLR_LEN, ItemSet, PITM_LEN, put_hdlr, put_pitm};
 use mini::MinimizedImage;
 use slots::groups::{has_alpha_item, has_gain_map_item};
 use slots::iprp::put_iprp;
@@ -54,78 +54,80 @@ fn put_item_boxes(out: &mut [u8], at: usize, set: ItemSet) -> usize
     put_iref(out, at, set)
 }
 
-fn put_meta_body(
-    out: &mut [u8],
-    image: MinimizedImage,
-    source: &[u8],
-    set: ItemSet,
-    lengths: DataLengths,
-    base: usize,
-) -> usize
-    requires fits { (meta_body_len image ≤ length out.old) × (Sound image source.now × (base + data_len (data_lengths image) < 4294967296)) }
-    requires of_image { (set ≡ item_set image) × (lengths ≡ data_lengths image) }
+// The item data lies from `base` on.
+#[tactic(auto, using(octets::specs::OverwriteLaws::writes), unfolding(crate::specs::EquivalentFile::meta_body))]
+fn put_meta_body(out: &mut [u8], image: MinimizedImage, source: &[u8], base: usize) -> usize
+    requires room { meta_body_len image ≤ length out.old }
+    requires fits { Fit image source.now × (base + data_len (data_lengths image) < 4294967296) }
     ensures { Wrote out.old 0 (meta_body_len image) (meta_body image source.now base) out.new result }
 {
+    let set = item_set(image);
     let at = put_full_box_header(out, 0, 0, 0);
     let at = put_item_boxes(out, at, set);
     let at = put_iprp(out, at, image, source);
     let at = put_grpl(out, at, set);
-    put_iloc(out, at, base, lengths)
+    put_iloc(out, at, base, data_lengths(image))
 }
 
-fn put_meta(
-    out: &mut [u8],
-    at: usize,
-    image: MinimizedImage,
-    source: &[u8],
-    lengths: DataLengths,
-    base: usize,
-) -> usize
-    requires fits { (at + (8 + meta_body_len image) ≤ length out.old) × (Sound image source.now × (base + data_len (data_lengths image) < 4294967296)) }
-    requires of_image { (meta_body_len image < 4294967288) × (lengths ≡ data_lengths image) }
+#[tactic(auto, using(boxes::specs::Boxed::boxes, crate::specs::Placed::meta_most), unfolding(crate::specs::EquivalentFile::meta))]
+fn put_meta(out: &mut [u8], at: usize, image: MinimizedImage, source: &[u8], base: usize) -> usize
+    requires room { at + (8 + meta_body_len image) ≤ length out.old }
+    requires fits { Fit image source.now × (base + data_len (data_lengths image) < 4294967296) }
     ensures { Wrote out.old at (8 + meta_body_len image) (meta image source.now base) out.new result }
 {
-    let set = item_set(image);
-    let body = at + 8;
-    let n = put_meta_body(&mut out[body..], image, source, set, lengths, base);
-    put_box_header(out, at, n, META)
+    put_boxed(
+        out,
+        at,
+        META,
+        |part| put_meta_body(part, image, source, base),
+    )
 }
 
+#[tactic(auto, using(boxes::specs::Boxed::boxes, crate::specs::Placed::content_most), unfolding(crate::specs::EquivalentFile::mdat))]
 fn put_mdat(out: &mut [u8], at: usize, image: MinimizedImage, source: &[u8]) -> usize
-    requires { (at + (8 + data_len (data_lengths image)) ≤ length out.old) × (DataPlaced image source.now × (data_len (data_lengths image) < 4294967288)) }
+    requires { (at + (8 + data_len (data_lengths image)) ≤ length out.old) × Fit image source.now }
     ensures { Wrote out.old at (8 + data_len (data_lengths image)) (mdat image source.now) out.new result }
 {
-    let body = at + 8;
-    let n = put_item_data(&mut out[body..], image, source);
-    put_box_header(out, at, n, MDAT)
+    put_boxed(out, at, MDAT, |part| put_item_data(part, image, source))
+}
+
+// What is known of a file before it is written: its file type, where mdat's content begins, and how long it is.
+#[derive(Clone, Copy, Debug, PartialEq, Eq)]
+pub struct FilePlan {
+    pub file_type: EquivalentFileType,
+    pub content_start: usize,
+    pub len: usize,
 }
 
 // The whole file, from the output's first byte on.
+#[tactic(auto, using(octets::specs::OverwriteLaws::writes, crate::specs::Placed::content_most, crate::specs::Placed::meta_most))]
 pub fn put_file(
     out: &mut [u8],
     image: MinimizedImage,
     source: &[u8],
-    file_type: FileType,
     brands: &[u8],
-    lengths: DataLengths,
-    base: usize,
+    plan: FilePlan,
 ) -> usize
-    requires fits { (file_type_len file_type brands.now + (8 + meta_body_len image) + (8 + data_len (data_lengths image)) ≤ length out.old) × Fit image source.now }
-    requires allowed { (allowed brands.now ≡ true) × ((base + data_len (data_lengths image) < 4294967296) × (lengths ≡ data_lengths image)) }
-    ensures { Wrote out.old 0 (file_type_len file_type brands.now + (8 + meta_body_len image) + (8 + data_len (data_lengths image)))
-        (file_type_box file_type brands.now ++ meta image source.now base ++ mdat image source.now) out.new result }
+    requires room { file_type_len plan.file_type brands.now + (8 + meta_body_len image) + (8 + data_len (data_lengths image)) ≤ length out.old }
+    requires fits { Fit image source.now × (plan.content_start + data_len (data_lengths image) < 4294967296) }
+    requires allowed { allowed brands.now ≡ true }
+    ensures { Wrote out.old 0 (file_type_len plan.file_type brands.now + (8 + meta_body_len image) + (8 + data_len (data_lengths image)))
+        (file_type_box plan.file_type brands.now ++ meta image source.now plan.content_start ++ mdat image source.now) out.new result }
 {
-    let at = put_ftyp(out, 0, file_type, brands);
-    let at = put_meta(out, at, image, source, lengths, base);
+    let at = put_ftyp(out, 0, plan.file_type, brands);
+    let at = put_meta(out, at, image, source, plan.content_start);
     put_mdat(out, at, image, source)
 }
 
+// How long the body of 'meta' is. It takes the lengths, since to compute them asks for bounds on the data, and this public function asks none
+// of its callers.
+#[tactic(auto, using(crate::specs::Placed::meta_most))]
 pub fn meta_body_len(image: MinimizedImage, lengths: DataLengths) -> usize
     requires { Bounded image × (lengths ≡ data_lengths image) }
     ensures { (result ≡ meta_body_len image) × (result ≤ 2110595) }
 {
     let set = item_set(image);
-    4 + (33 + 14 + iinf_len(set) + iref_len(set))
+    4 + (HDLR_LEN + PITM_LEN + iinf_len(set) + iref_len(set))
         + iprp_len(image)
         + grpl_len(set)
         + iloc_len(lengths)

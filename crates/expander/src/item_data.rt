@@ -11,13 +11,14 @@ ghost use Rattle.expander.specs.Placed.{DataPlaced, DataBounded, PlacedIf};
 
 use items::{DataLengths, len_if};
 use mini::{Chunk, MiniGainMap, MinimizedImage, Span, chunk_len};
-use octets::{copy_in, put_u8};
+use octets::{copy_in, part, put_u8};
 
+#[tactic(auto, unfolding(octets::specs::Part::part_of))]
 fn put_span(out: &mut [u8], at: usize, source: &[u8], x: Span) -> usize
     requires { (at + x.len ≤ length out.old) × SpanPlaced x source.now }
     ensures { Wrote out.old at x.len (span_bytes x source.now) out.new result }
 {
-    copy_in(out, at, &source[x.at..x.at + x.len])
+    copy_in(out, at, part(source, x))
 }
 
 // An absent chunk is passed over.
@@ -33,7 +34,7 @@ fn put_chunk(out: &mut [u8], cursor: usize, source: &[u8], chunk: Chunk) -> usiz
 }
 
 // Where there is a gain map: one zero byte and its metadata, which are the tone map's bytes, and then its own.
-#[tactic(auto, using(octets::specs::OverwriteLaws::writes))]
+#[tactic(auto, using(octets::specs::OverwriteLaws::writes, octets::specs::OverwriteLaws::nothing))]
 fn put_gain_map_if(out: &mut [u8], at: usize, source: &[u8], on: bool, g: MiniGainMap) -> usize
     requires room { at + (len_if on (1 + g.metadata.len) + len_if on g.«data».len) ≤ length out.old }
     requires placed { PlacedIf on g.metadata source.now × PlacedIf on g.«data» source.now }

@@ -1,14 +1,17 @@
 // Whether a record expands: refusals 10 to 15.
-ghost use Rattle.std.specs.Prelude.{◌≡◌, ◌≤◌};
-ghost use Rattle.expander.specs.Outcome.{is_uuid, number, needed_in, refusal_in, refusal_of};
+ghost use Rattle.std.specs.Prelude.{◌≡◌, ◌≤◌, true, IfOk};
+ghost use Rattle.ftyp.specs.FileType.{allowed};
+ghost use Rattle.expander.specs.Placed.{Fit};
+ghost use Rattle.expander.specs.Outcome.{is_uuid, number, number_not_zero, needed_in, refusal_in, refusal_of};
 
 use boxes::UUID;
 use ftyp::allowed;
 use mini::{CodecTypes, MinimizedImage};
+use refusals::Refusal;
 use writer::checks::well_placed;
 use writer::is_writable;
 
-// Why a record is not expanded.
+// Why a record is not expanded. Three cases are writing's too; a case that holds a `WriteError` would call a file that is too short one of writing.
 #[derive(Clone, Copy, Debug, PartialEq, Eq)]
 pub enum ExpandError {
     // A present chunk passes the end of the source.
@@ -27,11 +30,14 @@ pub enum ExpandError {
     TooShort { needed: usize },
 }
 
-impl ExpandError {
-    // The number of the refusal.
-    pub fn number(self) -> u8
-        ensures { result ≡ number self }
-    {
+impl Refusal for ExpandError {
+    ghost number = { number };
+
+    ghost needed = { needed_in };
+
+    ghost not_zero = { number_not_zero };
+
+    fn number(self) -> u8 {
         match self {
             ExpandError::Misplaced => 10,
             ExpandError::Unwritable => 11,
@@ -43,10 +49,7 @@ impl ExpandError {
         }
     }
 
-    // The length that comes with it: the one needed, else 0. Each error says its own, since each has cases of its own.
-    pub fn needed(self) -> usize
-        ensures { result ≡ needed_in self }
-    {
+    fn needed(self) -> usize {
         match self {
             ExpandError::TooShort { needed } => needed,
             _ => 0,
@@ -57,10 +60,7 @@ impl ExpandError {
 fn is_uuid(types: Option<CodecTypes>) -> bool
     ensures { result ≡ is_uuid types }
 {
-    let Some(types) = types else {
-        return false;
-    };
-    types.infe_type == UUID || types.codec_config_type == UUID
+    types.is_some_and(|t| t.infe_type == UUID || t.codec_config_type == UUID)
 }
 
 // The first of the reasons not to expand a record, if there is one.
@@ -68,6 +68,8 @@ fn is_uuid(types: Option<CodecTypes>) -> bool
 pub fn check(image: MinimizedImage, source: &[u8], brands: &[u8]) -> Result<(), ExpandError>
     ensures value { refusal_in result ≡ refusal_of image source.now brands.now }
     ensures upper_bound { refusal_in result ≤ 15 }
+    ensures fit { IfOk result (λ _. Fit image source.now) }
+    ensures allowed { IfOk result (λ _. allowed brands.now ≡ true) }
 {
     if !well_placed(image, source) {
         return Err(ExpandError::Misplaced);

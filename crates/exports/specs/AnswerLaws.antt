@@ -9,7 +9,7 @@ use Rattle.octets.specs.Overwrite.{overwrite, Wrote}
 use Rattle.mini.specs.Read.{read_mini}
 use Rattle.expander.specs.Outcome.{refusal_of}
 use Rattle.writer.specs.ToBox.{refused}
-use Rattle.writer.specs.Outcome.{Written}
+use Rattle.refusals.specs.Outcome.{Written}
 use Rattle.exports.specs.Answer.{packed, answer, Answered, expand_refusal}
 
 module _ {refusal : ℕ} {bytes out : List ℕ} where

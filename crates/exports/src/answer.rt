@@ -2,26 +2,32 @@
 ghost use Rattle.std.specs.Prelude.{◌≡◌, ◌<◌, ◌≤◌, length};
 ghost use Rattle.std.specs.Fn.{FnOnceReturnsAtMut, FnOnceTakesAtMut};
 ghost use Rattle.exports.specs.Answer.{unit, packed};
+ghost use Rattle.refusals.specs.Outcome.{outcome};
+
+use refusals::Refusal;
 
 // 2^48
-const UNIT: u64 = 281474976710656;
+pub const UNIT: u64 = 1 << 48;
 
-// A refusal: its number, and value 0.
-pub fn refused(number: u8) -> u64
-    ensures { result ≡ packed number 0 }
+// A refusal's number, or 0, with a value.
+pub fn packed(number: u16, value: usize) -> u64
+    requires { value < unit }
+    ensures { result ≡ packed number value }
 {
-    number as u64 * UNIT
+    u64::from(number) * UNIT + value as u64
 }
 
-// Refusal 16: its number, and the needed length.
-pub fn too_short(needed: usize) -> u64
-    requires { needed < unit }
-    ensures { result ≡ packed 16 needed }
+// A refusal, with the length that it needs.
+pub fn refused<E: Refusal>(error: E) -> u64
+    requires { E.needed error < unit }
+    ensures is { result ≡ packed (E.number error) (E.needed error) }
+    ensures not_zero { E.number error ≡ 0 → ⊥ }
 {
-    16 * UNIT + needed as u64
+    packed(u16::from(error.number()), error.needed())
 }
 
-// The length that `put` writes into an output of at least `needed` bytes; refusal 16 where the output is shorter.
+// The length that `put` writes into an output of at least `needed` bytes; refusal 16 where the output is shorter. A function that takes the
+// `Result` of the call too was tried: the answer of each call grew from one line to three.
 pub fn hand_out<F: FnOnce(&mut [u8]) -> usize>(needed: usize, out: &mut [u8], put: F) -> u64
     requires small { needed < unit }
     requires callable { needed ≤ length out.old → FnOnceTakesAtMut F.FnOnce put out.old }
@@ -29,15 +35,18 @@ pub fn hand_out<F: FnOnce(&mut [u8]) -> usize>(needed: usize, out: &mut [u8], pu
     ensures written { needed ≤ length out.old → FnOnceReturnsAtMut F.FnOnce put out.old result out.new }
 {
     if out.len() < needed {
-        return too_short(needed);
+        return packed(16, needed);
     }
     put(out) as u64
 }
 
-// The answer of a call that writes by itself.
-pub fn of_written(refusal: usize, len: usize) -> u64
-    requires { (refusal < 65536) × (len < unit) }
-    ensures { result ≡ packed refusal len }
+// The answer of a call that looks for room in the output itself: the length that it wrote, or its refusal.
+pub fn of_written<E: Refusal>(wrote: Result<usize, E>) -> u64
+    requires { (outcome E.number E.needed wrote).len < unit }
+    ensures { let w = outcome E.number E.needed wrote in result ≡ packed w.refusal w.len }
 {
-    refusal as u64 * UNIT + len as u64
+    match wrote {
+        Ok(len) => len as u64,
+        Err(error) => refused(error),
+    }
 }

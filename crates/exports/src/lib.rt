@@ -1,14 +1,13 @@
-// The functions that C and Rust programs call, on numbers and byte slices. docs/ABI.md has their numbers and layouts.
+// The exported functions, on numbers and byte slices, as Rust programs call them; `exports_c` gives them to C. docs/ABI.md has their numbers and
+// layouts.
 #![tactic(auto)]
 
 pub mod answer;
 
-ghost use Rattle.std.specs.Prelude.{◌≡◌, ◌<◌};
 ghost use Rattle.boxes.specs.Find.{find_box};
 ghost use Rattle.boxes.specs.Header.{header_at, header_refusal, header_or_blank};
 ghost use Rattle.expander.specs.EquivalentFile.{file};
-ghost use Rattle.expander.specs.Outcome.{outcome_of};
-ghost use Rattle.exports.specs.Answer.{Answered, expand_refusal, packed, unit};
+ghost use Rattle.exports.specs.Answer.{Answered, expand_refusal};
 ghost use Rattle.ftyp.specs.ReadFileType.{read_file_type, file_type_or_blank, file_type_refusal};
 ghost use Rattle.mini.specs.Read.{read_mini};
 ghost use Rattle.layout.specs.CheckBytes.{check_bytes};
@@ -20,22 +19,23 @@ ghost use Rattle.writer.specs.ToBox.{box_of};
 use boxes::find::find_box;
 use boxes::{BoxHeader, HeaderError, parse_box_header};
 use expander::entry::equivalent_file;
-use expander::refusal::ExpandError;
+use ftyp::FileType;
 use ftyp::read::read_file_type;
-use layout::check::put_check;
-use layout::file_type::put_file_type;
-use layout::header::put_header;
+use layout::check::{CHECK_LEN, put_check};
+use layout::file_type::{FILE_TYPE_LEN, put_file_type};
+use layout::header::{HEADER_LEN, put_header};
 use reader::parse;
 use record_layout::{put_record, record_len};
 use rewriter::rewrite;
 
 // Hands out the header that was read, or refuses.
+#[tactic(auto, using(crate::specs::AnswerLaws::refuses))]
 fn answer_header(read: Result<BoxHeader, HeaderError>, out: &mut [u8]) -> u64
     ensures { Answered (header_refusal read) (header_bytes (header_or_blank read)) out.old out.new result }
 {
     match read {
-        Ok(header) => answer::hand_out(45, out, |out| put_header(out, 0, header)),
-        Err(error) => answer::refused(error.number()),
+        Ok(header) => answer::hand_out(HEADER_LEN, out, |out| put_header(out, 0, header)),
+        Err(error) => answer::refused(error),
     }
 }
 
@@ -47,12 +47,13 @@ pub fn bustardcase_box_header(buf: &[u8], start: usize, out: &mut [u8]) -> u64
 }
 
 // Reads a payload to its record, for every payload.
+#[tactic(auto, using(crate::specs::AnswerLaws::refuses))]
 pub fn bustardcase_read(payload: &[u8], out: &mut [u8]) -> u64
     ensures { Answered (read_mini payload.now).refusal (record_bytes (read_mini payload.now).image) out.old out.new result }
 {
     match parse(payload) {
         Ok(image) => answer::hand_out(record_len(image), out, |out| put_record(out, 0, image)),
-        Err(error) => answer::refused(error.number()),
+        Err(error) => answer::refused(error),
     }
 }
 
@@ -60,21 +61,7 @@ pub fn bustardcase_read(payload: &[u8], out: &mut [u8]) -> u64
 pub fn bustardcase_rewrite(payload: &[u8], out: &mut [u8]) -> u64
     ensures { Answered (read_mini payload.now).refusal (box_of (read_mini payload.now).image payload.now) out.old out.new result }
 {
-    match rewrite(payload, out) {
-        Ok(len) => len as u64,
-        Err(refusal) => answer::of_written(refusal.number() as usize, refusal.needed()),
-    }
-}
-
-// The number for the length of a file, or for why there is none.
-fn answer_expanded(expanded: Result<usize, ExpandError>) -> u64
-    requires { (outcome_of expanded).len < unit }
-    ensures { result ≡ packed (outcome_of expanded).refusal (outcome_of expanded).len }
-{
-    match expanded {
-        Ok(len) => len as u64,
-        Err(error) => answer::of_written(error.number() as usize, error.needed()),
-    }
+    answer::of_written(rewrite(payload, out))
 }
 
 // Writes the equivalent file of the record of a payload, for every payload and every original file type.
@@ -88,8 +75,15 @@ pub fn bustardcase_expand(
     ensures { Answered (expand_refusal payload.now brands.now) (file (read_mini payload.now).image payload.now major minor brands.now) out.old out.new result }
 {
     match parse(payload) {
-        Ok(image) => { answer_expanded(equivalent_file(image, payload, major, minor, brands, out)) }
-        Err(error) => answer::refused(error.number()),
+        Ok(image) => {
+            let original = FileType {
+                major_brand: major,
+                minor_version: minor,
+                compatible_brands: brands,
+            };
+            answer::of_written(equivalent_file(image, payload, original, out))
+        }
+        Err(error) => answer::refused(error),
     }
 }
 
@@ -101,21 +95,23 @@ pub fn bustardcase_find_box(buf: &[u8], box_type: u32, out: &mut [u8]) -> u64
 }
 
 // Reads the file type of the payload of an 'ftyp' box, for every payload.
+#[tactic(auto, using(crate::specs::AnswerLaws::refuses))]
 pub fn bustardcase_file_type(body: &[u8], out: &mut [u8]) -> u64
     ensures { Answered (file_type_refusal (read_file_type body.now)) (file_type_bytes (file_type_or_blank (read_file_type body.now))) out.old out.new result }
 {
     match read_file_type(body) {
-        Ok(file_type) => answer::hand_out(24, out, |out| put_file_type(out, 0, file_type)),
-        Err(error) => answer::refused(error.number()),
+        Ok(parsed) => answer::hand_out(FILE_TYPE_LEN, out, |out| put_file_type(out, 0, parsed)),
+        Err(error) => answer::refused(error),
     }
 }
 
 // Checks the record of a payload against what a display takes, for every payload.
+#[tactic(auto, using(crate::specs::AnswerLaws::refuses))]
 pub fn bustardcase_check(payload: &[u8], out: &mut [u8]) -> u64
     ensures { Answered (read_mini payload.now).refusal (check_bytes (read_mini payload.now).image) out.old out.new result }
 {
     match parse(payload) {
-        Ok(image) => answer::hand_out(14, out, |out| put_check(out, 0, image)),
-        Err(error) => answer::refused(error.number()),
+        Ok(image) => answer::hand_out(CHECK_LEN, out, |out| put_check(out, 0, image)),
+        Err(error) => answer::refused(error),
     }
 }

@@ -1,5 +1,5 @@
-// The functions that C programs call: those of `exports`, each with its clause. docs/ABI.md has their numbers and layouts. A crate that others use
-// is no static library, so these stand in a crate of their own.
+// The functions of `exports` under the names that C calls, each with its clause. A crate that others use is no static library, so they stand in
+// one of their own.
 #![tactic(auto)]
 
 ghost use Rattle.boxes.specs.Find.{find_box};

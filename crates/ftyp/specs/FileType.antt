@@ -3,7 +3,7 @@
 use Rattle.std.specs.Prelude.{Bool, true, false, not, cond, List, [], ◌++◌, ℕ, zero, suc, ◌+◌, ◌*◌, ◌/◌, ◌%◌, length, eqb, leb}
 use Rattle.octets.specs.BigEndian.{be, num}
 use Rattle.boxes.specs.Boxed.{boxed}
-use Rattle.ftyp.specs.declared.FileType.{FileType}
+use Rattle.ftyp.specs.declared.EquivalentFileType.{EquivalentFileType}
 
 abbrev pub MIF1 : ℕ
 MIF1 = 0x6D696631
@@ -65,7 +65,7 @@ ftyp major minor gain brands = boxed FTYP (ftyp_body major minor gain brands)
 abbrev pub lacks : List ℕ → ℕ → Bool → Bool
 lacks s b wanted = cond wanted (not (has_brand s b)) false
 
-unfoldable pub file_type : (major minor : ℕ) (gain : Bool) (brands : List ℕ) → FileType
+unfoldable pub file_type : (major minor : ℕ) (gain : Bool) (brands : List ℕ) → EquivalentFileType
 file_type major minor gain brands =
     record {
       major_brand = major_of major minor;
@@ -82,18 +82,18 @@ added add b = cond add (be 4 b) []
 abbrev pub added_len : Bool → ℕ
 added_len add = cond add 4 0
 
-unfoldable pub file_type_body : FileType → List ℕ → List ℕ
+unfoldable pub file_type_body : EquivalentFileType → List ℕ → List ℕ
 file_type_body t s =
     be 4 t.major_brand ++ be 4 t.minor_version ++ s ++ added t.add_mif3 MIF3 ++ added t.add_mif1 MIF1 ++ added t.add_tmap TMAP
 
-unfoldable pub file_type_box : FileType → List ℕ → List ℕ
+unfoldable pub file_type_box : EquivalentFileType → List ℕ → List ℕ
 file_type_box t s = boxed FTYP (file_type_body t s)
 
 -- ---- lengths: of the body, and of the box with its header
-abbrev pub file_type_body_len : FileType → List ℕ → ℕ
+abbrev pub file_type_body_len : EquivalentFileType → List ℕ → ℕ
 file_type_body_len t s = 8 + length s + added_len t.add_mif3 + added_len t.add_mif1 + added_len t.add_tmap
 
-abbrev pub file_type_len : FileType → List ℕ → ℕ
+abbrev pub file_type_len : EquivalentFileType → List ℕ → ℕ
 file_type_len t s = 8 + file_type_body_len t s
 
 abbrev pub ftyp_len : (major minor : ℕ) (gain : Bool) (brands : List ℕ) → ℕ

@@ -1,11 +1,11 @@
 -- The file type that leaves the list of brands where it is lent gives the box of the list that grows, and the lengths are the lengths.
 use Rattle.std.specs.Prelude.{◌≡◌, refl, Bool, true, false, not, cond, List, ◌++◌, ℕ, zero, suc, ◌+◌, ◌*◌, ◌/◌, ◌%◌, ◌<◌, ◌≤◌, length, eqb, leb}
-use Rattle.std.proofs.Common.{sym, ap, ◌∙◌, append-nil, append_assoc, arith, mod-eq_of_lt, length-append, lit<, lit≤, eqb-true, leb-true}
+use Rattle.std.proofs.Common.{sym, ap, ◌∙◌, append-nil, append_assoc, arith, mod-eq_of_lt, length-append, lit<, lit≤, eqb-true, eq-eqb, ne_eqb, leb-true}
 use Rattle.std.proofs.lemmas.Bool.{eqb-false}
 use Rattle.octets.specs.BigEndian.{be, num}
 use Rattle.octets.specs.BigEndianLaws.{length-be, num-append, num_shift, num-be}
 use Rattle.boxes.specs.Boxed.{length-boxed}
-use Rattle.ftyp.specs.declared.FileType.{FileType}
+use Rattle.ftyp.specs.declared.EquivalentFileType.{EquivalentFileType}
 use Rattle.ftyp.specs.FileType.{MIF1, MIF3, TMAP, allowed, among, has_brand, renamed, brands_of, ftyp_body, ftyp, lacks, file_type, added, added_len, file_type_body, file_type_box, file_type_len, ftyp_len}
 
 -- ---- what an allowed list is
@@ -34,9 +34,35 @@ among-found s b k (suc n) h e =
     let other : k ≡ n → ⊥ = λ q. eqb-false _ _ f (ap (λ (j : ℕ). num 4 s (j * 4)) (sym q) ∙ e) in
     among-found s b k n (omega arith) e)
 
-pub has_brand_at : (s : List ℕ) (b k : ℕ) → num 4 s (k * 4) ≡ b → k < length s / 4 → has_brand s b ≡ true
+-- the first four bytes are a brand, and what follows them is the list of the others
+cond_swap : (x y z : Bool) → cond x true (cond y true z) ≡ cond y true (cond x true z)
+cond_swap true true z = refl
+cond_swap true false z = refl
+cond_swap false y z = refl
+
+among_first : (code s : List ℕ) (b k : ℕ) → length code ≡ 4 → among (code ++ s) b (suc k) ≡ cond (eqb (num 4 code 0) b) true (among s b k)
+among_first code s b zero h = rw (num-append 4 code s 0 (omega arith))
+among_first code s b (suc k) h =
+    let e : num 4 (code ++ s) (suc k * 4) ≡ num 4 s (k * 4) = ap (λ (j : ℕ). num 4 (code ++ s) j) (omega arith) ∙ num_shift 4 code s (k * 4) in
+    rw (e, among_first code s b k h) (cond_swap (eqb (num 4 s (k * 4)) b) (eqb (num 4 code 0) b) (among s b k))
+
+has_brand_first : (code s : List ℕ) (b : ℕ) → length code ≡ 4 → has_brand (code ++ s) b ≡ cond (eqb (num 4 code 0) b) true (has_brand s b)
 unfolding has_brand
-has_brand_at s b k e h = among-found s b k (length s / 4) h e
+has_brand_first code s b h =
+    let n : length (code ++ s) / 4 ≡ suc (length s / 4) = simp length-append (omega arith) in
+    rw n (among_first code s b (length s / 4) h)
+
+pub brand_found : (t code rest : List ℕ) {s : List ℕ} {b n : ℕ} → has_brand s b ≡ has_brand t b → s ≡ code ++ rest → length code ≡ n → n ≡ 4
+    → num 4 code 0 ≡ b → true ≡ has_brand t b
+brand_found t code rest {s} {b} q e h z f = sym (has_brand_first code rest b (h ∙ z) ∙ rw (eq-eqb _ _ f) refl) ∙ ap (λ (x : List ℕ). has_brand x b) (sym e) ∙ q
+
+pub brand_later : (t code rest : List ℕ) {s : List ℕ} {b n : ℕ} → has_brand s b ≡ has_brand t b → s ≡ code ++ rest → length code ≡ n → n ≡ 4
+    → (num 4 code 0 ≡ b → ⊥) → has_brand rest b ≡ has_brand t b
+brand_later t code rest {s} {b} q e h z f = sym (has_brand_first code rest b (h ∙ z) ∙ rw (ne_eqb _ _ f) refl) ∙ ap (λ (x : List ℕ). has_brand x b) (sym e) ∙ q
+
+pub no_brand : (s : List ℕ) (b : ℕ) → length s < 4 → has_brand s b ≡ false
+unfolding has_brand
+no_brand s b h = let z : length s / 4 ≡ 0 = omega arith in rw z refl
 
 -- a brand at the end does not make another one present
 among-append : (s t : List ℕ) (b k : ℕ) → k * 4 ≤ length s → among (s ++ t) b k ≡ among s b k
@@ -97,7 +123,7 @@ unfolding file_type_box file_type_body file_type ftyp ftyp_body
 ftyp_is major minor gain s h = rw (brands_are major minor gain s h) (simp append_assoc)
 
 -- ---- lengths
-pub length-file_type_box : (t : FileType) (s : List ℕ) → length (file_type_box t s) ≡ file_type_len t s
+pub length-file_type_box : (t : EquivalentFileType) (s : List ℕ) → length (file_type_box t s) ≡ file_type_len t s
 unfolding file_type_box file_type_body
 length-file_type_box t s = simp (length-boxed, length-append, length-be, length-added)
 
@@ -108,7 +134,7 @@ added_most : (d : Bool) → added_len d ≤ 4
 added_most true = lit≤ tt
 added_most false = lit≤ tt
 
-pub file_type_most : (t : FileType) (s : List ℕ) → file_type_len t s ≤ 28 + length s
+pub file_type_most : (t : EquivalentFileType) (s : List ℕ) → file_type_len t s ≤ 28 + length s
 file_type_most t s = omega (arith, added_most t.add_mif3, added_most t.add_mif1, added_most t.add_tmap)
 
 pub ftyp_most : (major minor : ℕ) (gain : Bool) (s : List ℕ) → ftyp_len major minor gain s ≤ 28 + length s

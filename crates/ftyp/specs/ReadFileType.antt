@@ -9,10 +9,11 @@
 use Rattle.std.specs.Prelude.{◌≡◌, Bool, true, false, cond, ℕ, ◌+◌, ◌-◌, ◌≤◌, ◌<◌, eqb, ltb, drop, Result, Ok, Err}
 use Rattle.std.proofs.Math.Path.{refl}
 use mathlib.Core.List.{List, [], ◌++◌, append_assoc}
-use Rattle.std.proofs.Common.{arith, lit<, length-append, drop_at, le-ltb}
+use Rattle.std.proofs.Common.{arith, rules, lit<, length-append, drop_at, le-ltb}
 use Rattle.std.proofs.Math.ListN.{length}
 use Rattle.octets.specs.BigEndian.{be, num}
 use Rattle.octets.specs.BigEndianLaws.{length-be, field_at}
+use Rattle.refusals.specs.Outcome.{refusal_in}
 use Rattle.ftyp.specs.FileType.{VVI3, VVIC, allowed, renamed, major_of, brands_of, ftyp_body}
 use Rattle.ftyp.specs.declared.read.FileTypeBody.{FileTypeBody}
 use Rattle.ftyp.specs.declared.read.FileTypeError.{FileTypeError}
@@ -29,13 +30,16 @@ is_file_type s = cond (ltb (length s) 8) false (allowed (brands_in s))
 abbrev pub number : FileTypeError → ℕ
 number e = 28
 
+-- it is not 0
+pub number_not_zero : (e : FileTypeError) → number e ≡ 0 → ⊥
+number_not_zero e = search (rules, arith)
+
 -- what reading a body hands out as a number and a file type: 0 and the file type, or the refusal's number and zeros
 abbrev pub file_type_refusal : Result FileTypeBody FileTypeError → ℕ
-file_type_refusal (Ok t) = 0
-file_type_refusal (Err e) = number e
+file_type_refusal = refusal_in number
 
 abbrev pub blank : FileTypeBody
-blank = record { major_brand = 0; minor_version = 0; brands_at = 0; brands_len = 0 }
+blank = record { major_brand = 0; minor_version = 0; compatible_brands = record { at = 0; len = 0 } }
 
 abbrev pub file_type_or_blank : Result FileTypeBody FileTypeError → FileTypeBody
 file_type_or_blank (Ok t) = t
@@ -46,7 +50,7 @@ refused = Err (record {})
 
 -- a file type whose brands are the n bytes from 8 on
 abbrev pub accepted : (major minor n : ℕ) → Result FileTypeBody FileTypeError
-accepted major minor n = Ok (record { major_brand = major; minor_version = minor; brands_at = 8; brands_len = n })
+accepted major minor n = Ok (record { major_brand = major; minor_version = minor; compatible_brands = record { at = 8; len = n } })
 
 unfoldable pub read_file_type : List ℕ → Result FileTypeBody FileTypeError
 read_file_type s = cond (is_file_type s) (accepted (num 4 s 0) (num 4 s 4) (length s - 8)) refused

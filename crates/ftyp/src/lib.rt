@@ -7,8 +7,8 @@ ghost use Rattle.std.specs.Prelude.{true, ◌≡◌, ◌+◌, ◌≤◌, length}
 ghost use Rattle.octets.specs.Overwrite.{Wrote};
 ghost use Rattle.ftyp.specs.FileType.{allowed, has_brand, renamed, major_of, file_type, added, added_len, file_type_body, file_type_body_len, file_type_box, file_type_len};
 
-use boxes::{FourCc, put_box_header};
-use octets::{copy_in, get, put};
+use boxes::{BOX_HEADER_LEN, FourCc, get_four_cc, put_boxed, put_four_cc};
+use octets::{copy_in, put};
 
 const MIF1: FourCc = 0x6D696631;
 
@@ -22,9 +22,17 @@ const VVIC: FourCc = 0x76766963;
 
 const FTYP: FourCc = 0x66747970;
 
-// The compatible brands stay in the list that is lent; the flags say which are added after it.
+// A file type, its compatible brands as they lie in the body of an 'ftyp'.
 #[derive(Clone, Copy, Debug, PartialEq, Eq)]
-pub struct FileType {
+pub struct FileType<'a> {
+    pub major_brand: FourCc,
+    pub minor_version: u32,
+    pub compatible_brands: &'a [u8],
+}
+
+// The file type of the equivalent file. Its brands are those of the original, and after them those that the flags name.
+#[derive(Clone, Copy, Debug, PartialEq, Eq)]
+pub struct EquivalentFileType {
     pub major_brand: FourCc,
     pub minor_version: u32,
     pub add_mif3: bool,
@@ -40,12 +48,12 @@ pub fn allowed(brands: &[u8]) -> bool
     brands.len() % 4 == 0 && brands.len() <= 4096
 }
 
-#[tactic(auto, using(crate::specs::FileTypeLaws::has_brand_at), unfolding(crate::specs::FileType::has_brand))]
+#[tactic(auto, using(crate::specs::FileTypeLaws::brand_found, crate::specs::FileTypeLaws::brand_later, crate::specs::FileTypeLaws::no_brand))]
 fn has_brand(brands: &[u8], b: FourCc) -> bool
     ensures { result ≡ has_brand brands.now b }
 {
-    for k in 0..brands.len() / 4 {
-        if get::<4>(brands, k * 4) as u32 == b {
+    for code in brands.chunks_exact(4) {
+        if get_four_cc(code, 0) == b {
             return true;
         }
     }
@@ -72,15 +80,16 @@ fn major_of(major: FourCc, minor: u32) -> FourCc
     }
 }
 
-// The file type of the equivalent file. The three brands differ, so the list as it is lent decides on each.
+// The three brands differ, so the list as it is lent decides on each.
 #[tactic(auto, unfolding(crate::specs::FileType::file_type))]
-pub fn equivalent_file_type(major: FourCc, minor: u32, gain_map: bool, brands: &[u8]) -> FileType
-    ensures { result ≡ file_type major minor gain_map brands.now }
+pub fn equivalent_file_type(original: FileType, gain_map: bool) -> EquivalentFileType
+    ensures { let t = original.entry in result ≡ file_type t.major_brand t.minor_version gain_map t.compatible_brands.now }
 {
-    FileType {
-        major_brand: major_of(major, minor),
+    let brands = original.compatible_brands;
+    EquivalentFileType {
+        major_brand: major_of(original.major_brand, original.minor_version),
         minor_version: 0,
-        add_mif3: renamed(major, minor) && !has_brand(brands, MIF3),
+        add_mif3: renamed(original.major_brand, original.minor_version) && !has_brand(brands, MIF3),
         add_mif1: !has_brand(brands, MIF1),
         add_tmap: gain_map && !has_brand(brands, TMAP),
     }
@@ -91,16 +100,16 @@ fn put_added(out: &mut [u8], at: usize, add: bool, b: FourCc) -> usize
     requires { at + added_len add ≤ length out.old }
     ensures { Wrote out.old at (added_len add) (added add b) out.new result }
 {
-    if add { put::<4>(out, at, b as u64) } else { at }
+    if add { put_four_cc(out, at, b) } else { at }
 }
 
 #[tactic(auto, using(octets::specs::OverwriteLaws::writes), unfolding(crate::specs::FileType::file_type_body))]
-fn put_body(out: &mut [u8], file_type: FileType, brands: &[u8]) -> usize
+fn put_body(out: &mut [u8], file_type: EquivalentFileType, brands: &[u8]) -> usize
     requires { file_type_body_len file_type brands.now ≤ length out.old }
     ensures { Wrote out.old 0 (file_type_body_len file_type brands.now) (file_type_body file_type brands.now) out.new result }
 {
-    let at = put::<4>(out, 0, file_type.major_brand as u64);
-    let at = put::<4>(out, at, file_type.minor_version as u64);
+    let at = put_four_cc(out, 0, file_type.major_brand);
+    let at = put::<4>(out, at, u64::from(file_type.minor_version));
     let at = copy_in(out, at, brands);
     let at = put_added(out, at, file_type.add_mif3, MIF3);
     let at = put_added(out, at, file_type.add_mif1, MIF1);
@@ -108,14 +117,13 @@ fn put_body(out: &mut [u8], file_type: FileType, brands: &[u8]) -> usize
 }
 
 // The 'ftyp' box of a file type, with the brands lent.
-#[tactic(auto, using(crate::specs::FileTypeLaws::allowed_short, crate::specs::FileTypeLaws::file_type_most))]
-pub fn put_ftyp(out: &mut [u8], at: usize, file_type: FileType, brands: &[u8]) -> usize
+#[tactic(auto, using(boxes::specs::Boxed::boxes, crate::specs::FileTypeLaws::allowed_short, crate::specs::FileTypeLaws::file_type_most), unfolding(crate::specs::FileType::file_type_box))]
+pub fn put_ftyp(out: &mut [u8], at: usize, file_type: EquivalentFileType, brands: &[u8]) -> usize
     requires room { at + file_type_len file_type brands.now ≤ length out.old }
     requires allowed { allowed brands.now ≡ true }
     ensures { Wrote out.old at (file_type_len file_type brands.now) (file_type_box file_type brands.now) out.new result }
 {
-    let n = put_body(&mut out[at + 8..], file_type, brands);
-    put_box_header(out, at, n, FTYP)
+    put_boxed(out, at, FTYP, |part| put_body(part, file_type, brands))
 }
 
 fn added_len(add: bool) -> usize
@@ -126,11 +134,13 @@ fn added_len(add: bool) -> usize
 
 // How many bytes `put_ftyp` writes.
 #[tactic(auto, using(crate::specs::FileTypeLaws::allowed_short))]
-pub fn ftyp_len(file_type: FileType, brands: &[u8]) -> usize
+pub fn ftyp_len(file_type: EquivalentFileType, brands: &[u8]) -> usize
     requires { allowed brands.now ≡ true }
     ensures { (result ≡ file_type_len file_type brands.now) × (result ≤ 4124) }
 {
-    16 + brands.len()
+    BOX_HEADER_LEN
+        + 8
+        + brands.len()
         + added_len(file_type.add_mif3)
         + added_len(file_type.add_mif1)
         + added_len(file_type.add_tmap)

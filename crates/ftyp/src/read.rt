@@ -1,30 +1,35 @@
 // The payload of an 'ftyp' box read: `FileType::parse` of ftyp.rs.
 ghost use Rattle.std.specs.Prelude.{◌≡◌};
-ghost use Rattle.ftyp.specs.ReadFileType.{number, read_file_type};
+ghost use Rattle.ftyp.specs.ReadFileType.{number, number_not_zero, read_file_type};
 
 use crate::allowed;
-use boxes::FourCc;
-use octets::get;
+use boxes::{FourCc, get_four_cc};
+use octets::{Span, get};
+use refusals::Refusal;
 
-// The body of an 'ftyp': two numbers, and where in the body the compatible brands lie.
+// What the body of an 'ftyp' gives, and where in it the compatible brands lie.
 #[derive(Clone, Copy, Debug, PartialEq, Eq)]
 pub struct FileTypeBody {
     pub major_brand: FourCc,
     pub minor_version: u32,
-    pub brands_at: usize,
-    pub brands_len: usize,
+    pub compatible_brands: Span,
 }
 
 // The body is no original file type: it is shorter than its two numbers, or its brands are no list that expanding allows.
 #[derive(Clone, Copy, Debug, PartialEq, Eq)]
 pub struct FileTypeError;
 
-impl FileTypeError {
-    // The number of the refusal.
-    pub fn number(self) -> u8
-        ensures { result ≡ number self }
-    {
+impl Refusal for FileTypeError {
+    ghost number = { number };
+
+    ghost not_zero = { number_not_zero };
+
+    fn number(self) -> u8 {
         28
+    }
+
+    fn needed(self) -> usize {
+        0
     }
 }
 
@@ -37,9 +42,11 @@ pub fn read_file_type(body: &[u8]) -> Result<FileTypeBody, FileTypeError>
         return Err(FileTypeError);
     }
     Ok(FileTypeBody {
-        major_brand: get::<4>(body, 0) as u32,
+        major_brand: get_four_cc(body, 0),
         minor_version: get::<4>(body, 4) as u32,
-        brands_at: 8,
-        brands_len: body.len() - 8,
+        compatible_brands: Span {
+            at: 8,
+            len: body.len() - 8,
+        },
     })
 }

@@ -3,12 +3,13 @@ use Rattle.std.specs.Prelude.{◌≡◌, Bool, false, List, ℕ, eqb, None}
 use Rattle.std.proofs.Common.{sym, ap, ap₂, ◌∙◌}
 use Rattle.bits.specs.State.{State, read_bytes, test}
 use Rattle.bits.specs.Format.{Format, field, padded37, view, ◌>>=◌}
-use Rattle.bits.specs.Run.{Run, run_exactly}
+use Rattle.bits.specs.Run.{Run, run_exactly, run_seq}
 use Rattle.mini.specs.Blank.{blank_hdr_boxes}
 use Rattle.mini.specs.Read.{bits_to_boundary, past_trailing_bits}
 use Rattle.mini.specs.Syntax.{chroma, tmap_cicp, gain_map_dimension, gain_map_format, gain_map_header, cclv, cclv_for, hdr_boxes, trailing_bits}
 use Rattle.mini.specs.Cclv.{cclv_more}
 use Rattle.mini.specs.declared.SampleFormat.TheVariants.{Integer}
+use Rattle.mini.specs.declared.Cicp.{Cicp}
 use Rattle.mini.specs.declared.Dimensions.{Dimensions}
 use Rattle.mini.specs.declared.GainMapHeader.{GainMapHeader}
 use Rattle.mini.specs.declared.MiniHdrBoxes.{MiniHdrBoxes}
@@ -62,3 +63,13 @@ run_no_hdr_boxes {s} {b} t e f =
 -- what the HDR flag brings, one after the other: the gain map's part of the header, the HDR boxes of the picture, those of the tone-mapped one
 abbrev pub hdr_part : Bool → Dimensions → Format (GainMapHeader × (MiniHdrBoxes × MiniHdrBoxes))
 hdr_part hdr d = gain_map_header hdr d >>= λ g. hdr_boxes hdr >>= λ h. hdr_boxes g.present
+
+pub run_no_hdr_part : {s : List ℕ} {b : State} {g : GainMapHeader} {h m : MiniHdrBoxes} (t : Bool) (d : Dimensions) → t ≡ false
+    → g ≡ no_gain_map → h ≡ blank_hdr_boxes → m ≡ blank_hdr_boxes → Run (hdr_part t d) s b (g, (h, m)) b
+run_no_hdr_part t d e f i j =
+    run_seq _ _ (run_no_gain_map t d e f)
+    (run_seq _ _ (run_no_hdr_boxes t e i) (run_no_hdr_boxes _ (ap (λ (g : GainMapHeader). g.present) f) j))
+
+-- ---- the three numbers of a colour
+abbrev pub colour_from : Cicp → ℕ × (ℕ × ℕ)
+colour_from c = (c.primaries, (c.transfer, c.matrix))

@@ -1,13 +1,14 @@
-// The header up to the HDR part.
+// The header up to the HDR part. A part whose flag is not set is not read: the state stays as it is.
 ghost use Rattle.std.specs.Prelude.{◌≡◌, ◌+◌, ◌^◌, ◌<◌};
 ghost use Rattle.bits.specs.Format.{choose, offset, number};
 ghost use Rattle.bits.specs.Run.{state, Run};
+ghost use Rattle.header_reader.specs.Rules.{colour_from};
+ghost use Rattle.mini.specs.Views.{cicp_fields};
 ghost use Rattle.mini.specs.Syntax.{flags, dimensions, chroma, float_format, integer_format, sample_format, explicit_cicp, explicit_codec_types, main_format};
 
 use bits::{Bits, ReadError};
 use mini::{Cicp, CodecTypes, DIMENSION, Dimensions, Flags, MainFormat, MiniChroma, SampleFormat};
 
-// What each part reads to, with the state after it.
 pub fn read_flags(b: Bits, payload: &[u8]) -> (Flags, Bits)
     ensures { Run flags payload.now (state b) result.0 (state result.1) }
 {
@@ -48,12 +49,13 @@ pub fn read_dimensions(b: Bits, payload: &[u8]) -> (Dimensions, Bits)
     let (height, b) = b.minus1_if(payload, true, large, DIMENSION);
     let dimensions = Dimensions {
         large,
-        width,
-        height,
+        width: width as u32,
+        height: height as u32,
     };
     (dimensions, b)
 }
 
+// `|`, not `||`, which to the prover is a branch with goals of its own.
 pub fn read_chroma(b: Bits, payload: &[u8], subsampling: u8) -> (MiniChroma, Bits)
     ensures { Run (chroma subsampling) payload.now (state b) result.0 (state result.1) }
 {
@@ -117,19 +119,26 @@ pub fn read_format(b: Bits, payload: &[u8], float: bool) -> (SampleFormat, Bits)
     }
 }
 
+pub fn read_colour(b: Bits, payload: &[u8]) -> (Cicp, Bits)
+    ensures { Run cicp_fields payload.now (state b) (colour_from result.0) (state result.1) }
+{
+    let (primaries, b) = b.byte(payload, 8);
+    let (transfer, b) = b.byte(payload, 8);
+    let (matrix, b) = b.byte(payload, 8);
+    let cicp = Cicp {
+        primaries,
+        transfer,
+        matrix,
+    };
+    (cicp, b)
+}
+
 #[tactic(auto, unfolding(mini::specs::Syntax::explicit_cicp))]
 pub fn read_cicp(b: Bits, payload: &[u8], on: bool) -> (Option<Cicp>, Bits)
     ensures { Run (explicit_cicp on) payload.now (state b) result.0 (state result.1) }
 {
     if on {
-        let (primaries, b) = b.byte(payload, 8);
-        let (transfer, b) = b.byte(payload, 8);
-        let (matrix, b) = b.byte(payload, 8);
-        let cicp = Cicp {
-            primaries,
-            transfer,
-            matrix,
-        };
+        let (cicp, b) = read_colour(b, payload);
         (Some(cicp), b)
     } else {
         (None, b)

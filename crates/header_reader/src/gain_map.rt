@@ -1,28 +1,22 @@
 // The gain map's part of the header, before the HDR boxes.
-ghost use Rattle.std.specs.Prelude.{true, ◌≡◌};
+ghost use Rattle.std.specs.Prelude.{true};
 ghost use Rattle.bits.specs.Run.{state, Run};
 ghost use Rattle.mini.specs.Syntax.{tmap_cicp, gain_map_dimension, gain_map_format, gain_map_header};
 
-use crate::fields::{read_chroma, read_format};
+use crate::fields::{read_chroma, read_colour, read_format};
 use bits::Bits;
 use mini::{DIMENSION, Dimensions, GainMapHeader, SampleFormat, TmapCicp};
 
+// Where the flag is not set nothing is read. Each such part is a format of its own, so it says so itself: with one function for all, each call would
+// have to name the format.
 #[tactic(auto, unfolding(mini::specs::Syntax::tmap_cicp))]
 fn read_tmap_cicp(b: Bits, payload: &[u8], on: bool) -> (Option<TmapCicp>, Bits)
     ensures { Run (tmap_cicp on) payload.now (state b) result.0 (state result.1) }
 {
     if on {
-        let (primaries, b) = b.byte(payload, 8);
-        let (transfer, b) = b.byte(payload, 8);
-        let (matrix, b) = b.byte(payload, 8);
+        let (cicp, b) = read_colour(b, payload);
         let (full_range, b) = b.flag(payload);
-        let cicp = TmapCicp {
-            primaries,
-            transfer,
-            matrix,
-            full_range,
-        };
-        (Some(cicp), b)
+        (Some(TmapCicp { cicp, full_range }), b)
     } else {
         (None, b)
     }
@@ -44,7 +38,8 @@ fn read_dimension(
         if same {
             (main, b)
         } else {
-            b.minus1_if(payload, true, large, DIMENSION)
+            let (dimension, b) = b.minus1_if(payload, true, large, DIMENSION);
+            (dimension as u32, b)
         }
     } else {
         (0, b)
@@ -58,7 +53,7 @@ fn read_format_if(b: Bits, payload: &[u8], present: bool, float: bool) -> (Sampl
     if present {
         read_format(b, payload, float)
     } else {
-        (SampleFormat::Integer { bits: 0 }, b)
+        (SampleFormat::default(), b)
     }
 }
 
@@ -96,6 +91,7 @@ pub fn read_gain_map_header(b: Bits, payload: &[u8], d: Dimensions) -> (GainMapH
     (header, b)
 }
 
+#[tactic(auto, using(crate::specs::Rules::run_no_gain_map))]
 pub fn read_gain_map_header_if(
     b: Bits,
     payload: &[u8],
@@ -107,6 +103,6 @@ pub fn read_gain_map_header_if(
     if hdr {
         read_gain_map_header(b, payload, d)
     } else {
-        (crate::blank::no_gain_map(), b)
+        (GainMapHeader::default(), b)
     }
 }

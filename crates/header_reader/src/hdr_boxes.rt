@@ -1,5 +1,5 @@
 // The HDR bodies of one picture.
-ghost use Rattle.std.specs.Prelude.{true, ◌≡◌};
+ghost use Rattle.std.specs.Prelude.{true};
 ghost use Rattle.bits.specs.Run.{state, Run};
 ghost use Rattle.mini.specs.Syntax.{cclv, cclv_for, hdr_boxes};
 
@@ -56,12 +56,13 @@ pub fn read_hdr_boxes(b: Bits, payload: &[u8]) -> (MiniHdrBoxes, Bits)
     (boxes, b)
 }
 
+#[tactic(auto, using(crate::specs::Rules::run_no_hdr_boxes))]
 pub fn read_hdr_boxes_if(b: Bits, payload: &[u8], on: bool) -> (MiniHdrBoxes, Bits)
     ensures { Run (hdr_boxes on) payload.now (state b) result.0 (state result.1) }
 {
     if on {
         read_hdr_boxes(b, payload)
     } else {
-        (crate::blank::blank_hdr_boxes(), b)
+        (MiniHdrBoxes::default(), b)
     }
 }

@@ -17,20 +17,20 @@ pub fn read_sizes(b: Bits, payload: &[u8], f: Flags, g: GainMapHeader) -> (Chunk
     let (large_metadata, b) = b.flag_if(payload, f.icc | f.exif | f.xmp | g.present);
     let (large_codec_config, b) = b.flag(payload);
     let (large_item_data, b) = b.flag(payload);
-    let (icc, b) = b.size_minus1_if(payload, f.icc, large_metadata, METADATA);
-    let (tmap_icc, b) = b.size_minus1_if(payload, g.present & g.tmap_icc, large_metadata, METADATA);
+    let (icc, b) = b.minus1_if(payload, f.icc, large_metadata, METADATA);
+    let (tmap_icc, b) = b.minus1_if(payload, g.present & g.tmap_icc, large_metadata, METADATA);
     let (gain_map_metadata, b) = b.size_if(payload, g.present, large_metadata, METADATA);
     let (gain_map_data, b) = b.size_if(payload, g.present, large_item_data, ITEM_DATA);
     let coded = g.present & (0 < gain_map_data);
     let (gain_map_codec_config, b) = b.size_if(payload, coded, large_codec_config, CODEC_CONFIG);
     let (main_codec_config, b) = b.size_if(payload, true, large_codec_config, CODEC_CONFIG);
-    let (main_data, b) = b.size_minus1_if(payload, true, large_item_data, ITEM_DATA);
+    let (main_data, b) = b.minus1_if(payload, true, large_item_data, ITEM_DATA);
     let (alpha_data, b) = b.size_if(payload, f.alpha, large_item_data, ITEM_DATA);
     let coded = f.alpha & (0 < alpha_data);
     let (alpha_codec_config, b) = b.size_if(payload, coded, large_codec_config, CODEC_CONFIG);
     let (exif_xmp_compressed, b) = b.flag_if(payload, f.exif | f.xmp);
-    let (exif, b) = b.size_minus1_if(payload, f.exif, large_metadata, METADATA);
-    let (xmp, b) = b.size_minus1_if(payload, f.xmp, large_metadata, METADATA);
+    let (exif, b) = b.minus1_if(payload, f.exif, large_metadata, METADATA);
+    let (xmp, b) = b.minus1_if(payload, f.xmp, large_metadata, METADATA);
     let sizes = ChunkSizes {
         large_metadata,
         large_codec_config,
@@ -55,7 +55,6 @@ pub fn read_sizes(b: Bits, payload: &[u8], f: Flags, g: GainMapHeader) -> (Chunk
 pub fn read_trailing_bits(b: Bits, payload: &[u8]) -> Bits
     ensures { state result ≡ past_trailing_bits payload.now (state b) }
 {
-    let n = (8 - b.at.1 % 8) % 8;
-    let (padding, b) = b.read(payload, n as u32);
+    let (padding, b) = b.read(payload, b.at.to_boundary() as u32);
     b.test(padding == 0, ReadError::TrailingBits)
 }

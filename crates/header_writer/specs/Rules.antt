@@ -1,15 +1,15 @@
 -- Rules for the parts of the header's writing that are no plain sequence. Assumes nothing.
 use Rattle.std.specs.Prelude.{◌≡◌, refl, Bool, true, false, not, ◌&&◌, ◌||◌, List, [], ◌∷◌, ◌++◌, ℕ, zero, suc, ◌+◌, ◌-◌, ◌^◌, ◌≤◌, ◌<◌, eqb, ltb, length, take, drop, get_or, replicate}
-use Rattle.std.proofs.Common.{sym, ap, ap₂, ◌∙◌, arith, add-one, length-take, length-drop, take-append-drop, eq-eqb, ne_eqb, lt-ltb}
+use Rattle.std.proofs.Common.{sym, append_assoc, ap, ap₂, ◌∙◌, arith, add-one, length-take, length-drop, take-append-drop, eq-eqb, ne_eqb, lt-ltb}
 use Rattle.std.proofs.Math.Pow.{are_bytes}
 use Rattle.bits.specs.Bit.{bits_n, bits_of, bits_onto_is}
-use Rattle.bits.specs.Format.{sized, is_list, view, ◌>>=◌}
+use Rattle.bits.specs.Format.{Format, field, flag, sized, is_list, view, ◌>>=◌}
 use Rattle.bit_writer.specs.Writer.{Fed, Tested, Puts, fits, all_zero}
-use Rattle.bit_writer.specs.WriterLaws.{fed_as, fed_tested}
+use Rattle.bit_writer.specs.WriterLaws.{fed_as, fed_tested, put_of, then, and_assoc}
 use Rattle.bit_writer.specs.declared.BitWriter.{BitWriter}
 use Rattle.mini.specs.Cclv.{cclv_more}
 use Rattle.mini.specs.Syntax.{cclv}
-use Rattle.mini.specs.Views.{bits_in, is_float, is_format, float_code}
+use Rattle.mini.specs.Views.{cicp_fields, bits_in, is_float, is_format, float_code}
 use Rattle.mini.specs.declared.SampleFormat.{SampleFormat}
 use Rattle.mini.specs.declared.SampleFormat.TheVariants.{Integer, Float}
 
@@ -79,3 +79,18 @@ puts_cclv {w = w} {m = m} (x ∷ l) e h n g p q r =
           r.ok
           ∙ ap₂ (λ (t u : Bool). t && u) q (ap (λ (j : ℕ). all_zero (drop j (x ∷ l))) (add-one m) ∙ cclv_good x m l (omega arith) g e h);
     }
+
+-- ---- colour: its three fields, and a flag behind them
+abbrev pub cicp_and_flag : Format (ℕ × (ℕ × (ℕ × Bool)))
+cicp_and_flag = do
+  primaries ← field 8
+  transfer ← field 8
+  matrix ← field 8
+  flag
+
+pub puts_cicp_then : {o o₁ o₂ : List ℕ} {w w₁ w₂ : BitWriter} {a b c : ℕ} {t : Bool} → Puts cicp_fields o w (a, (b, c)) o₁ w₁ → Puts flag o₁ w₁ t o₂ w₂
+    → Puts cicp_and_flag o w (a, (b, (c, t))) o₂ w₂
+unfolding ◌>>=◌
+puts_cicp_then {w = w} {a = a} {b} {c} {t} p q =
+    let m = then (put_of p) (put_of q) in
+    record { fed = fed_as (simp append_assoc) m.fed; ok = m.ok ∙ simp and_assoc }

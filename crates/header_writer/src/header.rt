@@ -1,12 +1,14 @@
-// The header's bits, group by group as mini's Syntax has them. Once a value is one that no header holds, the writer's state says so.
-ghost use Rattle.std.specs.Prelude.{◌≡◌, length};
+// The header's bits, group by group as mini's Syntax has them. Once a value is one that no header holds, the writer's state says so: of a
+// value that is absent though its flag is set, zeros are written. Numbers are widened by `as`, which computes in a proof; of a `from` each
+// group's proof would have to carry the result.
+ghost use Rattle.std.specs.Prelude.{◌≡◌};
 ghost use Rattle.bits.specs.Format.{choose, offset, number};
 ghost use Rattle.bit_writer.specs.Writer.{Puts};
 ghost use Rattle.mini.specs.declared.SampleFormat.TheVariants.{Integer};
 ghost use Rattle.mini.specs.Syntax.{flags, dimensions, chroma, float_format, integer_format, sample_format, explicit_cicp, explicit_codec_types, main_format, tmap_cicp, gain_map_dimension, gain_map_format, gain_map_header, cclv_for, hdr_boxes, chunk_sizes, header};
-ghost use Rattle.mini.specs.Views.{bits_in, is_format, float_to, float_code};
+ghost use Rattle.mini.specs.Views.{cicp_fields, bits_in, is_format, float_to, float_code};
 
-use bit_writer::{BitWriter, zeros};
+use bit_writer::{BitWriter, all_zero};
 use mini::{
     CODEC_CONFIG, ChunkSizes, Cicp, CodecTypes, DIMENSION, Dimensions, Flags, GainMapHeader,
     Header, ITEM_DATA, METADATA, MainFormat, MiniChroma, MiniHdrBoxes, SampleFormat, TmapCicp,
@@ -75,6 +77,7 @@ fn put_float_format(w: BitWriter, out: &mut [u8], f: SampleFormat) -> BitWriter
         .test(has_float_code(f))
 }
 
+#[tactic(auto, using(bit_writer::specs::WriterLaws::formats))]
 fn put_depth(w: BitWriter, out: &mut [u8], high: bool, bits: u8) -> BitWriter
     ensures { Puts (choose high (offset 9 3) (number 8)) out.old w bits out.new result }
 {
@@ -94,6 +97,7 @@ fn put_integer_format(w: BitWriter, out: &mut [u8], f: SampleFormat) -> BitWrite
     put_depth(w, out, high, bits).test(!f.is_float())
 }
 
+#[tactic(auto, using(bit_writer::specs::WriterLaws::formats), unfolding(mini::specs::Syntax::sample_format))]
 pub fn put_sample_format(w: BitWriter, out: &mut [u8], float: bool, f: SampleFormat) -> BitWriter
     ensures { Puts (sample_format float) out.old w f out.new result }
 {
@@ -104,32 +108,31 @@ pub fn put_sample_format(w: BitWriter, out: &mut [u8], float: bool, f: SampleFor
     }
 }
 
+fn put_cicp(w: BitWriter, out: &mut [u8], c: Cicp) -> BitWriter
+    ensures { Puts cicp_fields out.old w (c.primaries, (c.transfer, c.matrix)) out.new result }
+{
+    w.put(out, 8, c.primaries as usize)
+        .put(out, 8, c.transfer as usize)
+        .put(out, 8, c.matrix as usize)
+}
+
+#[tactic(auto, using(bit_writer::specs::WriterLaws::formats, crate::proofs::Optional::not_of), unfolding(mini::specs::Syntax::explicit_cicp))]
 pub fn put_explicit_cicp(w: BitWriter, out: &mut [u8], on: bool, c: Option<Cicp>) -> BitWriter
     ensures { Puts (explicit_cicp on) out.old w c out.new result }
 {
     if on {
-        let f = c.unwrap_or(Cicp {
-            primaries: 0,
-            transfer: 0,
-            matrix: 0,
-        });
-        w.put(out, 8, f.primaries as usize)
-            .put(out, 8, f.transfer as usize)
-            .put(out, 8, f.matrix as usize)
-            .test(c.is_some())
+        put_cicp(w, out, c.unwrap_or_default()).test(c.is_some())
     } else {
         w.test(c.is_none())
     }
 }
 
+#[tactic(auto, using(bit_writer::specs::WriterLaws::formats, crate::proofs::Optional::not_of), unfolding(mini::specs::Syntax::explicit_codec_types))]
 pub fn put_codec_types(w: BitWriter, out: &mut [u8], on: bool, c: Option<CodecTypes>) -> BitWriter
     ensures { Puts (explicit_codec_types on) out.old w c out.new result }
 {
     if on {
-        let f = c.unwrap_or(CodecTypes {
-            infe_type: 0,
-            codec_config_type: 0,
-        });
+        let f = c.unwrap_or_default();
         w.put(out, 32, f.infe_type as usize)
             .put(out, 32, f.codec_config_type as usize)
             .test(c.is_some())
@@ -148,19 +151,13 @@ pub fn put_main_format(w: BitWriter, out: &mut [u8], f: Flags, m: MainFormat) ->
     put_codec_types(w, out, f.explicit_codec_types, m.explicit_codec_types)
 }
 
+#[tactic(auto, using(bit_writer::specs::WriterLaws::formats, crate::proofs::Optional::not_of), unfolding(mini::specs::Syntax::tmap_cicp))]
 pub fn put_tmap_cicp(w: BitWriter, out: &mut [u8], on: bool, c: Option<TmapCicp>) -> BitWriter
     ensures { Puts (tmap_cicp on) out.old w c out.new result }
 {
     if on {
-        let f = c.unwrap_or(TmapCicp {
-            primaries: 0,
-            transfer: 0,
-            matrix: 0,
-            full_range: false,
-        });
-        w.put(out, 8, f.primaries as usize)
-            .put(out, 8, f.transfer as usize)
-            .put(out, 8, f.matrix as usize)
+        let f = c.unwrap_or_default();
+        put_cicp(w, out, f.cicp)
             .flag(out, f.full_range)
             .test(c.is_some())
     } else {
@@ -168,6 +165,7 @@ pub fn put_tmap_cicp(w: BitWriter, out: &mut [u8], on: bool, c: Option<TmapCicp>
     }
 }
 
+#[tactic(auto, using(bit_writer::specs::WriterLaws::formats), unfolding(mini::specs::Syntax::gain_map_dimension))]
 fn put_gain_map_dimension(
     w: BitWriter,
     out: &mut [u8],
@@ -179,14 +177,10 @@ fn put_gain_map_dimension(
 ) -> BitWriter
     ensures { Puts (gain_map_dimension has same large main) out.old w v out.new result }
 {
-    if has {
-        if same {
-            w.test(v == main)
-        } else {
-            w.minus1_if(out, true, large, DIMENSION, v as usize)
-        }
-    } else {
-        w.test(v == 0)
+    match (has, same) {
+        (true, true) => w.test(v == main),
+        (true, false) => w.minus1_if(out, true, large, DIMENSION, v as usize),
+        (false, _) => w.test(v == 0),
     }
 }
 
@@ -197,6 +191,7 @@ fn is_no_format(f: SampleFormat) -> bool
     matches!(f, SampleFormat::Integer { bits: 0 })
 }
 
+#[tactic(auto, using(bit_writer::specs::WriterLaws::formats), unfolding(mini::specs::Syntax::gain_map_format))]
 fn put_gain_map_format(
     w: BitWriter,
     out: &mut [u8],
@@ -239,15 +234,14 @@ pub fn put_gain_map_header(
     put_tmap_cicp(w, out, g.tmap_explicit_cicp, g.tmap_cicp)
 }
 
-fn put_cclv(w: BitWriter, out: &mut [u8], on: bool, body: &[u8]) -> BitWriter
-    requires { length body.now ≡ 37 }
+fn put_cclv(w: BitWriter, out: &mut [u8], on: bool, body: &[u8; 37]) -> BitWriter
     ensures { Puts (cclv_for on) out.old w body.now out.new result }
 {
     if on {
         let n = mini::cclv_more(body[0]) + 1;
-        w.bytes(out, body, n).test(zeros(body, n))
+        w.bytes(out, &body[..n]).test(all_zero(&body[n..]))
     } else {
-        w.test(zeros(body, 0))
+        w.test(all_zero(body))
     }
 }
 

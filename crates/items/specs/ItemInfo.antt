@@ -107,6 +107,9 @@ pub count_entries : (s : ItemSet) → length (infe_entries s) ≡ entry_count s
 unfolding infe_entries
 count_entries s = simp (length-append, count_if) (omega arith)
 
+-- by which `grind` sees that
+pub ruleset entry_laws = (joined-entries, count_entries)
+
 length-infe : (id flags type : ℕ) → length (infe id flags type) ≡ infe_len
 unfolding infe infe_fields
 length-infe id flags type = simp (length-boxed, length-append, length-full_box_header, length-be)

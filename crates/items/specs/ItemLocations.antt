@@ -96,6 +96,9 @@ pub count_locations : (base : ℕ) (l : DataLengths) → length (locations base 
 unfolding locations
 count_locations base l = simp (length-append, count_located)
 
+-- by which `grind` sees how the locations' entries follow one another, and how many they are
+pub ruleset location_laws = (entries-append, count_locations)
+
 pub length-entries : (base : ℕ) (l : DataLengths) → length (entries (locations base l)) ≡ entries_len l
 unfolding locations
 length-entries base l = simp (entries-append, length-append, length-located)

@@ -1,17 +1,22 @@
 -- 'iref', the references between the items (ISO/IEC 14496-12, 8.11.12; ISO/IEC 23008-12, O.4; document 01, 'The equivalent file'; mini.rs,
 -- `equivalent_file`).
-use Rattle.std.specs.Prelude.{◌≡◌, refl, Bool, true, false, cond, List, [], ◌∷◌, ◌++◌, ℕ, ◌+◌, ◌≤◌, eqb, length}
+use Rattle.std.specs.Prelude.{◌≡◌, refl, Bool, true, false, cond, List, [], ◌∷◌, ◌++◌, map, ℕ, ◌+◌, ◌≤◌, eqb, length}
 use Rattle.std.proofs.Common.{arith, length-append}
 use Rattle.octets.specs.BigEndian.{be}
 use Rattle.octets.specs.BigEndianLaws.{length-be}
 use Rattle.boxes.specs.Boxed.{boxed, full_box_header, length-boxed, length-full_box_header}
+use Rattle.mini.specs.Cut.{joined}
+use Rattle.mini.specs.declared.ItemKind.{ItemKind}
 use Rattle.mini.specs.ItemKind.{MAIN, ALPHA, TMAP, GAIN_MAP, EXIF, XMP}
 use Rattle.items.specs.declared.ItemSet.{ItemSet}
 use Rattle.items.specs.Optional.{bytes_if, len_if, length_if, if_most}
 
 abbrev pub item_ids : List ℕ → List ℕ
-item_ids [] = []
-item_ids (id ∷ ids) = be 2 id ++ item_ids ids
+item_ids ids = joined (map (be 2) ids)
+
+-- of the code's items, the numbers
+abbrev pub numbers : List ItemKind → List ℕ
+numbers kinds = map (λ kind. kind.0) kinds
 
 -- from_item_ID, reference_count, the to_item_IDs
 unfoldable pub reference : (type «from» : ℕ) (to : List ℕ) → List ℕ
@@ -77,6 +82,9 @@ length-tone_map_refs s = length_if s.tone_map _ _ (length_dimg s.gain_map)
 pub length-references : (s : ItemSet) → length (references s) ≡ references_len s
 unfolding references
 length-references s = simp (length-append, length-alpha_refs, length-tone_map_refs, length_prem)
+
+-- by which `grind` sees whether there is a reference
+pub ruleset reference_laws = (length-references)
 
 length-cond : (b : Bool) (bs : List ℕ) (n : ℕ) → length bs ≡ n → length (cond b [] bs) ≡ cond b 0 n
 length-cond true bs n e = refl

@@ -4,7 +4,7 @@ ghost use Rattle.octets.specs.Overwrite.{Wrote};
 ghost use Rattle.items.specs.ItemGroup.{altr_body, altr, grpl_box, grpl, grpl_len};
 
 use crate::{ItemSet, len_if};
-use boxes::{FourCc, put_box_header, put_full_box_header};
+use boxes::{FourCc, put_boxed, put_full_box_header};
 use mini::ItemKind;
 use octets::put;
 
@@ -12,16 +12,19 @@ const GRPL: FourCc = 0x6772706C;
 
 const ALTR: FourCc = 0x616C7472;
 
+// 'grpl' with its one group of two items.
+const GRPL_LEN: usize = 36;
+
 #[tactic(auto, using(octets::specs::OverwriteLaws::writes), unfolding(crate::specs::ItemGroup::altr_body))]
 fn put_altr_body(out: &mut [u8]) -> usize
     requires { 20 ≤ length out.old }
     ensures { Wrote out.old 0 20 altr_body out.new result }
 {
     let at = put_full_box_header(out, 0, 0, 0);
-    let at = put::<4>(out, at, ItemKind::ALTR_GROUP as u64);
+    let at = put::<4>(out, at, u64::from(ItemKind::ALTR_GROUP.0));
     let at = put::<4>(out, at, 2);
-    let at = put::<4>(out, at, ItemKind::TMAP as u64);
-    put::<4>(out, at, ItemKind::MAIN as u64)
+    let at = put::<4>(out, at, u64::from(ItemKind::TMAP.0));
+    put::<4>(out, at, u64::from(ItemKind::MAIN.0))
 }
 
 #[tactic(auto, using(boxes::specs::Boxed::boxes), unfolding(crate::specs::ItemGroup::altr))]
@@ -29,8 +32,7 @@ fn put_altr(out: &mut [u8], at: usize) -> usize
     requires { at + 28 ≤ length out.old }
     ensures { Wrote out.old at 28 altr out.new result }
 {
-    let n = put_altr_body(&mut out[at + 8..]);
-    put_box_header(out, at, n, ALTR)
+    put_boxed(out, at, ALTR, put_altr_body)
 }
 
 #[tactic(auto, using(boxes::specs::Boxed::boxes), unfolding(crate::specs::ItemGroup::grpl_box))]
@@ -38,8 +40,7 @@ fn put_grpl_box(out: &mut [u8], at: usize) -> usize
     requires { at + 36 ≤ length out.old }
     ensures { Wrote out.old at 36 grpl_box out.new result }
 {
-    let n = put_altr(&mut out[at + 8..], 0);
-    put_box_header(out, at, n, GRPL)
+    put_boxed(out, at, GRPL, |part| put_altr(part, 0))
 }
 
 #[tactic(auto, using(octets::specs::OverwriteLaws::nothing))]
@@ -58,5 +59,5 @@ pub fn put_grpl(out: &mut [u8], at: usize, s: ItemSet) -> usize
 pub fn grpl_len(s: ItemSet) -> usize
     ensures { (result ≡ grpl_len s) × (result ≤ 36) }
 {
-    len_if(s.tone_map, 36)
+    len_if(s.tone_map, GRPL_LEN)
 }

@@ -5,7 +5,7 @@ ghost use Rattle.items.specs.Optional.{bytes_if, len_if};
 ghost use Rattle.items.specs.ItemInfo.{infe_fields, infe, infe_len, exif_type, content_type, content_encoding, encoding_len, mime_fields, mime, mime_len, entry_bytes, entry_count, entries_len, iinf_body, iinf, iinf_len};
 
 use crate::{ItemSet, len_if};
-use boxes::{FourCc, put_box_header, put_full_box_header};
+use boxes::{FourCc, put_boxed, put_four_cc, put_full_box_header};
 use mini::ItemKind;
 use octets::{copy_in, put, put_u8};
 
@@ -26,37 +26,55 @@ const SHOWN: u32 = 0;
 
 const HIDDEN: u32 = 1;
 
+// How many bytes `put_infe` writes.
+const INFE_LEN: usize = 21;
+
+// What an 'infe' says of its item.
+#[derive(Clone, Copy, Debug, PartialEq, Eq)]
+struct Entry {
+    id: ItemKind,
+    flags: u32,
+    item_type: FourCc,
+}
+
+impl Entry {
+    fn new(id: ItemKind, flags: u32, item_type: FourCc) -> Self
+        ensures { result ≡ record { id = id; flags = flags; item_type = item_type } }
+    {
+        Entry {
+            id,
+            flags,
+            item_type,
+        }
+    }
+}
+
 #[tactic(auto, using(octets::specs::OverwriteLaws::writes), unfolding(crate::specs::ItemInfo::infe_fields))]
-fn put_infe_fields(out: &mut [u8], id: u16, flags: u32, item_type: FourCc) -> usize
+fn put_infe_fields(out: &mut [u8], entry: Entry) -> usize
     requires { 13 ≤ length out.old }
-    ensures { Wrote out.old 0 13 (infe_fields id flags item_type) out.new result }
+    ensures { Wrote out.old 0 13 (infe_fields entry.id.0 entry.flags entry.item_type) out.new result }
 {
-    let at = put_full_box_header(out, 0, 2, flags);
-    let at = put::<2>(out, at, id as u64);
+    let at = put_full_box_header(out, 0, 2, entry.flags);
+    let at = put::<2>(out, at, u64::from(entry.id.0));
     let at = put::<2>(out, at, 0);
-    let at = put::<4>(out, at, item_type as u64);
+    let at = put_four_cc(out, at, entry.item_type);
     put_u8(out, at, 0)
 }
 
 #[tactic(auto, using(boxes::specs::Boxed::boxes), unfolding(crate::specs::ItemInfo::infe))]
-fn put_infe(out: &mut [u8], at: usize, id: u16, flags: u32, item_type: FourCc) -> usize
+fn put_infe(out: &mut [u8], at: usize, entry: Entry) -> usize
     requires { at + infe_len ≤ length out.old }
-    ensures { Wrote out.old at infe_len (infe id flags item_type) out.new result }
+    ensures { Wrote out.old at infe_len (infe entry.id.0 entry.flags entry.item_type) out.new result }
 {
-    let n = put_infe_fields(&mut out[at + 8..], id, flags, item_type);
-    put_box_header(out, at, n, INFE)
+    put_boxed(out, at, INFE, |part| put_infe_fields(part, entry))
 }
 
 #[tactic(auto, using(octets::specs::OverwriteLaws::nothing))]
-fn put_infe_if(out: &mut [u8], at: usize, on: bool, id: u16, flags: u32, item_type: FourCc) -> usize
+fn put_infe_if(out: &mut [u8], at: usize, on: bool, entry: Entry) -> usize
     requires { at + len_if on infe_len ≤ length out.old }
-    ensures { Wrote out.old at (len_if on infe_len) (bytes_if on (infe id flags item_type)) out.new result }
+    ensures { Wrote out.old at (len_if on infe_len) (bytes_if on (infe entry.id.0 entry.flags entry.item_type)) out.new result }
 {
-    if on {
-        put_infe(out, at, id, flags, item_type)
-    } else {
-        at
-    }
+    if on { put_infe(out, at, entry) } else { at }
 }
 
 fn exif_type(compressed: bool) -> FourCc
@@ -88,7 +106,7 @@ fn put_mime_fields(out: &mut [u8], compressed: bool) -> usize
     requires { 33 + encoding_len compressed ≤ length out.old }
     ensures { Wrote out.old 0 (33 + encoding_len compressed) (mime_fields compressed) out.new result }
 {
-    let at = put_infe_fields(out, ItemKind::XMP, HIDDEN, MIME);
+    let at = put_infe_fields(out, Entry::new(ItemKind::XMP, HIDDEN, MIME));
     let at = put_content_type(out, at);
     put_content_encoding(out, at, compressed)
 }
@@ -98,8 +116,7 @@ fn put_mime(out: &mut [u8], at: usize, compressed: bool) -> usize
     requires { at + mime_len compressed ≤ length out.old }
     ensures { Wrote out.old at (mime_len compressed) (mime compressed) out.new result }
 {
-    let n = put_mime_fields(&mut out[at + 8..], compressed);
-    put_box_header(out, at, n, INFE)
+    put_boxed(out, at, INFE, |part| put_mime_fields(part, compressed))
 }
 
 #[tactic(auto, using(octets::specs::OverwriteLaws::nothing))]
@@ -119,12 +136,16 @@ fn put_entries(out: &mut [u8], at: usize, s: ItemSet) -> usize
     requires { at + entries_len s ≤ length out.old }
     ensures { Wrote out.old at (entries_len s) (entry_bytes s) out.new result }
 {
-    let exif_type = exif_type(s.compressed);
-    let at = put_infe(out, at, ItemKind::MAIN, SHOWN, s.item_type);
-    let at = put_infe_if(out, at, s.alpha, ItemKind::ALPHA, HIDDEN, s.item_type);
-    let at = put_infe_if(out, at, s.tone_map, ItemKind::TMAP, SHOWN, TMAP);
-    let at = put_infe_if(out, at, s.gain_map, ItemKind::GAIN_MAP, HIDDEN, s.item_type);
-    let at = put_infe_if(out, at, s.exif, ItemKind::EXIF, HIDDEN, exif_type);
+    let main = Entry::new(ItemKind::MAIN, SHOWN, s.item_type);
+    let alpha = Entry::new(ItemKind::ALPHA, HIDDEN, s.item_type);
+    let tone_map = Entry::new(ItemKind::TMAP, SHOWN, TMAP);
+    let gain_map = Entry::new(ItemKind::GAIN_MAP, HIDDEN, s.item_type);
+    let exif = Entry::new(ItemKind::EXIF, HIDDEN, exif_type(s.compressed));
+    let at = put_infe(out, at, main);
+    let at = put_infe_if(out, at, s.alpha, alpha);
+    let at = put_infe_if(out, at, s.tone_map, tone_map);
+    let at = put_infe_if(out, at, s.gain_map, gain_map);
+    let at = put_infe_if(out, at, s.exif, exif);
     put_mime_if(out, at, s.xmp, s.compressed)
 }
 
@@ -138,12 +159,13 @@ fn entry_count(s: ItemSet) -> u16
         + u16::from(s.xmp)
 }
 
+#[tactic(auto, using(octets::specs::OverwriteLaws::writes, crate::specs::ItemInfo::entry_laws), unfolding(crate::specs::ItemInfo::iinf_body))]
 fn put_iinf_body(out: &mut [u8], s: ItemSet) -> usize
     requires { 6 + entries_len s ≤ length out.old }
     ensures { Wrote out.old 0 (6 + entries_len s) (iinf_body s) out.new result }
 {
     let at = put_full_box_header(out, 0, 0, 0);
-    let at = put::<2>(out, at, entry_count(s) as u64);
+    let at = put::<2>(out, at, u64::from(entry_count(s)));
     put_entries(out, at, s)
 }
 
@@ -152,8 +174,7 @@ pub fn put_iinf(out: &mut [u8], at: usize, s: ItemSet) -> usize
     requires { at + iinf_len s ≤ length out.old }
     ensures { Wrote out.old at (iinf_len s) (iinf s) out.new result }
 {
-    let n = put_iinf_body(&mut out[at + 8..], s);
-    put_box_header(out, at, n, IINF)
+    put_boxed(out, at, IINF, |part| put_iinf_body(part, s))
 }
 
 fn mime_len(compressed: bool) -> usize
@@ -162,13 +183,21 @@ fn mime_len(compressed: bool) -> usize
     42 + len_if(compressed, 7)
 }
 
+// How many bytes the entries take.
+fn entries_len(s: ItemSet) -> usize
+    ensures { (result ≡ entries_len s) × (result ≤ 154) }
+{
+    INFE_LEN
+        + len_if(s.alpha, INFE_LEN)
+        + len_if(s.tone_map, INFE_LEN)
+        + len_if(s.gain_map, INFE_LEN)
+        + len_if(s.exif, INFE_LEN)
+        + len_if(s.xmp, mime_len(s.compressed))
+}
+
 // How many bytes `put_iinf` writes.
 pub fn iinf_len(s: ItemSet) -> usize
     ensures { (result ≡ iinf_len s) × (result ≤ 168) }
 {
-    35 + len_if(s.alpha, 21)
-        + len_if(s.tone_map, 21)
-        + len_if(s.gain_map, 21)
-        + len_if(s.exif, 21)
-        + len_if(s.xmp, mime_len(s.compressed))
+    14 + entries_len(s)
 }

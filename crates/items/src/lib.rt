@@ -1,5 +1,5 @@
 // The boxes of 'meta' that list the items (ISO/IEC 23008-12, O.4): `equivalent_file` of mini.rs. Each body is written into its own stretch of
-// the output, and its header then.
+// the output, and then its header.
 #![tactic(auto)]
 
 pub mod group;
@@ -7,12 +7,13 @@ pub mod info;
 pub mod locations;
 pub mod references;
 
-ghost use Rattle.std.specs.Prelude.{◌≡◌, ◌+◌, ◌≤◌, length};
+ghost use Rattle.std.specs.Prelude.{◌≡◌, ◌+◌, ◌≤◌, ◌<◌, length};
 ghost use Rattle.octets.specs.Overwrite.{Wrote};
+ghost use Rattle.items.specs.ItemLocations.{data_len};
 ghost use Rattle.items.specs.Optional.{len_if};
 ghost use Rattle.items.specs.HandlerAndPrimary.{hdlr_body, hdlr, hdlr_len, pitm_body, pitm, pitm_len};
 
-use boxes::{FourCc, put_box_header, put_full_box_header};
+use boxes::{FourCc, put_boxed, put_four_cc, put_full_box_header};
 use mini::ItemKind;
 use octets::{put, put_u8};
 
@@ -22,7 +23,14 @@ const PICT: FourCc = 0x70696374;
 
 const PITM: FourCc = 0x7069746D;
 
-// Which items the file has. The main picture is always there; `tone_map` is a gain map that is present, `gain_map` one whose data is not empty.
+// How many bytes `put_hdlr` writes.
+pub const HDLR_LEN: usize = 33;
+
+// How many bytes `put_pitm` writes.
+pub const PITM_LEN: usize = 14;
+
+// Which items the file has, and what their boxes say of them. The main picture is always there, of type `item_type`, as alpha and the gain map are.
+// `premultiplied` is of alpha; `tone_map` is a gain map that is present, `gain_map` one whose data is not empty; `compressed` is of Exif and XMP.
 #[derive(Clone, Copy, Debug, PartialEq, Eq)]
 pub struct ItemSet {
     pub item_type: FourCc,
@@ -46,7 +54,18 @@ pub struct DataLengths {
     pub xmp: usize,
 }
 
-// The length of what is written or not. An `if` says it more plainly than a product with the flag as a number, here and elsewhere.
+impl DataLengths {
+    // How many bytes the items have together.
+    pub fn total(self) -> usize
+        requires { data_len self < 4294967296 }
+        ensures { result ≡ data_len self }
+    {
+        self.alpha + self.tone_map + self.gain_map + self.main + self.exif + self.xmp
+    }
+}
+
+// The length of what is written only where a flag says so. What writes it is a function for each part, as `put_infe_if`: one for all parts, which
+// took a closure that writes, proved where it was called once, but not where one part follows another.
 pub fn len_if(on: bool, n: usize) -> usize
     ensures { (result ≡ len_if on n) × (result ≤ n) }
 {
@@ -60,7 +79,7 @@ fn put_hdlr_body(out: &mut [u8]) -> usize
 {
     let at = put_full_box_header(out, 0, 0, 0);
     let at = put::<4>(out, at, 0);
-    let at = put::<4>(out, at, PICT as u64);
+    let at = put_four_cc(out, at, PICT);
     let at = put::<8>(out, at, 0);
     let at = put::<4>(out, at, 0);
     put_u8(out, at, 0)
@@ -71,8 +90,7 @@ pub fn put_hdlr(out: &mut [u8], at: usize) -> usize
     requires { at + hdlr_len ≤ length out.old }
     ensures { Wrote out.old at hdlr_len hdlr out.new result }
 {
-    let n = put_hdlr_body(&mut out[at + 8..]);
-    put_box_header(out, at, n, HDLR)
+    put_boxed(out, at, HDLR, put_hdlr_body)
 }
 
 #[tactic(auto, using(octets::specs::OverwriteLaws::writes), unfolding(crate::specs::HandlerAndPrimary::pitm_body))]
@@ -81,7 +99,7 @@ fn put_pitm_body(out: &mut [u8]) -> usize
     ensures { Wrote out.old 0 6 pitm_body out.new result }
 {
     let at = put_full_box_header(out, 0, 0, 0);
-    put::<2>(out, at, ItemKind::MAIN as u64)
+    put::<2>(out, at, u64::from(ItemKind::MAIN.0))
 }
 
 #[tactic(auto, using(boxes::specs::Boxed::boxes), unfolding(crate::specs::HandlerAndPrimary::pitm))]
@@ -89,6 +107,5 @@ pub fn put_pitm(out: &mut [u8], at: usize) -> usize
     requires { at + pitm_len ≤ length out.old }
     ensures { Wrote out.old at pitm_len pitm out.new result }
 {
-    let n = put_pitm_body(&mut out[at + 8..]);
-    put_box_header(out, at, n, PITM)
+    put_boxed(out, at, PITM, put_pitm_body)
 }

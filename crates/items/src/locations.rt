@@ -4,55 +4,64 @@ ghost use Rattle.octets.specs.Overwrite.{Wrote};
 ghost use Rattle.items.specs.ItemLocations.{entry, entries, iloc_body, iloc, located, locations, data_len, for_bytes, location_count, entries_len, iloc_len};
 
 use crate::DataLengths;
-use boxes::{FourCc, put_box_header, put_full_box_header};
-use mini::ItemKind;
+use boxes::{FourCc, put_boxed, put_full_box_header};
+use mini::{ItemKind, Span};
 use octets::put;
 
 const ILOC: FourCc = 0x696C6F63;
 
+// How many bytes `put_entry` writes.
+const ENTRY_LEN: usize = 16;
+
 #[tactic(auto, using(octets::specs::OverwriteLaws::writes), unfolding(crate::specs::ItemLocations::entry))]
-fn put_entry(out: &mut [u8], at: usize, id: u16, off: usize, len: usize) -> usize
+fn put_entry(out: &mut [u8], at: usize, id: ItemKind, bytes: Span) -> usize
     requires { at + 16 ≤ length out.old }
-    ensures { Wrote out.old at 16 (entry (record { id = id; off = off; len = len })) out.new result }
+    ensures { Wrote out.old at 16 (entry (record { id = id.0; off = bytes.at; len = bytes.len })) out.new result }
 {
-    let at = put::<2>(out, at, id as u64);
+    let at = put::<2>(out, at, u64::from(id.0));
     let at = put::<2>(out, at, 0);
     let at = put::<2>(out, at, 0);
     let at = put::<2>(out, at, 1);
-    let at = put::<4>(out, at, off as u64);
-    put::<4>(out, at, len as u64)
+    let at = put::<4>(out, at, bytes.at as u64);
+    put::<4>(out, at, bytes.len as u64)
 }
 
 // An item without bytes has no entry.
 #[tactic(auto, using(octets::specs::OverwriteLaws::nothing))]
-fn put_located(out: &mut [u8], at: usize, id: u16, off: usize, len: usize) -> usize
-    requires { at + for_bytes len 16 ≤ length out.old }
-    ensures { Wrote out.old at (for_bytes len 16) (entries (located id off len)) out.new result }
+fn put_located(out: &mut [u8], at: usize, id: ItemKind, bytes: Span) -> usize
+    requires { at + for_bytes bytes.len 16 ≤ length out.old }
+    ensures { Wrote out.old at (for_bytes bytes.len 16) (entries (located id.0 bytes.at bytes.len)) out.new result }
 {
-    if len == 0 {
+    if bytes.len == 0 {
         at
     } else {
-        put_entry(out, at, id, off, len)
+        put_entry(out, at, id, bytes)
     }
 }
 
-// Row by row and not in a loop: a table of the six would name the same values.
+// The entries go by item number, the bytes lie in another order. Row by row: a table of the six would name the same values, and a loop over it
+// passes over those without bytes besides.
+#[tactic(auto, using(octets::specs::OverwriteLaws::writes, crate::specs::ItemLocations::location_laws), unfolding(crate::specs::ItemLocations::locations))]
 fn put_entries(out: &mut [u8], at: usize, base: usize, l: DataLengths) -> usize
     requires room { at + entries_len l ≤ length out.old }
     requires offsets { base + data_len l < 4294967296 }
     ensures { Wrote out.old at (entries_len l) (entries (locations base l)) out.new result }
 {
-    let tone_map = base + l.alpha;
-    let gain_map = tone_map + l.tone_map;
-    let main = gain_map + l.gain_map;
-    let exif = main + l.main;
-    let xmp = exif + l.exif;
-    let at = put_located(out, at, ItemKind::MAIN, main, l.main);
-    let at = put_located(out, at, ItemKind::ALPHA, base, l.alpha);
-    let at = put_located(out, at, ItemKind::TMAP, tone_map, l.tone_map);
-    let at = put_located(out, at, ItemKind::GAIN_MAP, gain_map, l.gain_map);
-    let at = put_located(out, at, ItemKind::EXIF, exif, l.exif);
-    put_located(out, at, ItemKind::XMP, xmp, l.xmp)
+    let alpha = Span {
+        at: base,
+        len: l.alpha,
+    };
+    let tone_map = alpha.next(l.tone_map);
+    let gain_map = tone_map.next(l.gain_map);
+    let main = gain_map.next(l.main);
+    let exif = main.next(l.exif);
+    let xmp = exif.next(l.xmp);
+    let at = put_located(out, at, ItemKind::MAIN, main);
+    let at = put_located(out, at, ItemKind::ALPHA, alpha);
+    let at = put_located(out, at, ItemKind::TMAP, tone_map);
+    let at = put_located(out, at, ItemKind::GAIN_MAP, gain_map);
+    let at = put_located(out, at, ItemKind::EXIF, exif);
+    put_located(out, at, ItemKind::XMP, xmp)
 }
 
 fn location_count(l: DataLengths) -> u16
@@ -71,6 +80,7 @@ fn count_with_bytes(lengths: &[usize]) -> usize
     lengths.iter().filter(|len| **len != 0).count()
 }
 
+#[tactic(auto, using(octets::specs::OverwriteLaws::writes, crate::specs::ItemLocations::location_laws), unfolding(crate::specs::ItemLocations::iloc_body))]
 fn put_iloc_body(out: &mut [u8], base: usize, l: DataLengths) -> usize
     requires room { 8 + entries_len l ≤ length out.old }
     requires offsets { base + data_len l < 4294967296 }
@@ -78,7 +88,7 @@ fn put_iloc_body(out: &mut [u8], base: usize, l: DataLengths) -> usize
 {
     let at = put_full_box_header(out, 0, 1, 0);
     let at = put::<2>(out, at, 0x4400);
-    let at = put::<2>(out, at, location_count(l) as u64);
+    let at = put::<2>(out, at, u64::from(location_count(l)));
     put_entries(out, at, base, l)
 }
 
@@ -89,13 +99,12 @@ pub fn put_iloc(out: &mut [u8], at: usize, base: usize, l: DataLengths) -> usize
     requires offsets { base + data_len l < 4294967296 }
     ensures { Wrote out.old at (iloc_len l) (iloc (locations base l)) out.new result }
 {
-    let n = put_iloc_body(&mut out[at + 8..], base, l);
-    put_box_header(out, at, n, ILOC)
+    put_boxed(out, at, ILOC, |part| put_iloc_body(part, base, l))
 }
 
 // How many bytes `put_iloc` writes.
 pub fn iloc_len(l: DataLengths) -> usize
     ensures { (result ≡ iloc_len l) × (result ≤ 112) }
 {
-    16 + 16 * usize::from(location_count(l))
+    16 + ENTRY_LEN * usize::from(location_count(l))
 }

@@ -4,10 +4,10 @@ ghost use Rattle.octets.specs.BigEndian.{be};
 ghost use Rattle.octets.specs.Overwrite.{Wrote};
 ghost use Rattle.mini.specs.ItemKind.{MAIN, ALPHA, TMAP, GAIN_MAP};
 ghost use Rattle.items.specs.Optional.{bytes_if, len_if};
-ghost use Rattle.items.specs.ItemReferences.{item_ids, reference, alpha_refs, alpha_refs_len, tone_map_refs, tone_map_refs_len, references, references_len, iref_body, iref_box, iref, iref_len};
+ghost use Rattle.items.specs.ItemReferences.{item_ids, numbers, reference, alpha_refs, alpha_refs_len, tone_map_refs, tone_map_refs_len, references, references_len, iref_body, iref_box, iref, iref_len};
 
 use crate::{ItemSet, len_if};
-use boxes::{FourCc, put_box_header, put_full_box_header};
+use boxes::{FourCc, put_boxed, put_full_box_header};
 use mini::ItemKind;
 use octets::put;
 
@@ -21,26 +21,37 @@ const DIMG: FourCc = 0x64696D67;
 
 const CDSC: FourCc = 0x63647363;
 
-fn put_ids(out: &mut [u8], from: u16, to: &[u16]) -> usize
+// How many bytes a reference to one item takes, and how many more a second item.
+const REFERENCE_LEN: usize = 14;
+
+const ID_LEN: usize = 2;
+
+#[tactic(auto, using(crate::proofs::Laws::id_writes))]
+fn put_ids(out: &mut [u8], from: ItemKind, to: &[ItemKind]) -> usize
     requires { (4 + 2 * length to.now ≤ length out.old) × (length to.now ≤ 2) }
-    ensures { Wrote out.old 0 (4 + 2 * length to.now) (be 2 «from» ++ be 2 (length to.now) ++ item_ids to.now) out.new result }
+    ensures { Wrote out.old 0 (4 + 2 * length to.now) (be 2 «from».0 ++ be 2 (length to.now) ++ item_ids (numbers to.now)) out.new result }
 {
-    let at = put::<2>(out, 0, from as u64);
+    let at = put::<2>(out, 0, u64::from(from.0));
     let mut next = put::<2>(out, at, to.len() as u64);
     for &id in to {
-        next = put::<2>(out, next, id as u64);
+        next = put::<2>(out, next, u64::from(id.0));
     }
     next
 }
 
 // A reference to one item or two.
-#[tactic(auto, using(boxes::specs::Boxed::boxes), unfolding(crate::specs::ItemReferences::reference))]
-fn put_reference(out: &mut [u8], at: usize, reference_type: FourCc, from: u16, to: &[u16]) -> usize
+#[tactic(auto, using(boxes::specs::Boxed::boxes, crate::proofs::Laws::counted), unfolding(crate::specs::ItemReferences::reference))]
+fn put_reference(
+    out: &mut [u8],
+    at: usize,
+    reference_type: FourCc,
+    from: ItemKind,
+    to: &[ItemKind],
+) -> usize
     requires { (at + (8 + (4 + 2 * length to.now)) ≤ length out.old) × (length to.now ≤ 2) }
-    ensures { Wrote out.old at (8 + (4 + 2 * length to.now)) (reference reference_type «from» to.now) out.new result }
+    ensures { Wrote out.old at (8 + (4 + 2 * length to.now)) (reference reference_type «from».0 (numbers to.now)) out.new result }
 {
-    let n = put_ids(&mut out[at + 8..], from, to);
-    put_box_header(out, at, n, reference_type)
+    put_boxed(out, at, reference_type, |part| put_ids(part, from, to))
 }
 
 #[tactic(auto, using(octets::specs::OverwriteLaws::nothing))]
@@ -49,11 +60,11 @@ fn put_reference_if(
     at: usize,
     on: bool,
     reference_type: FourCc,
-    from: u16,
-    to: u16,
+    from: ItemKind,
+    to: ItemKind,
 ) -> usize
     requires { at + len_if on 14 ≤ length out.old }
-    ensures { Wrote out.old at (len_if on 14) (bytes_if on (reference reference_type «from» (to ∷ []))) out.new result }
+    ensures { Wrote out.old at (len_if on 14) (bytes_if on (reference reference_type «from».0 (to.0 ∷ []))) out.new result }
 {
     if on {
         put_reference(out, at, reference_type, from, &[to])
@@ -147,20 +158,22 @@ fn put_iref_box(out: &mut [u8], at: usize, s: ItemSet) -> usize
     requires { at + (8 + (4 + references_len s)) ≤ length out.old }
     ensures { Wrote out.old at (8 + (4 + references_len s)) (iref_box s) out.new result }
 {
-    let n = put_iref_body(&mut out[at + 8..], s);
-    put_box_header(out, at, n, IREF)
+    put_boxed(out, at, IREF, |part| put_iref_body(part, s))
 }
 
 // How many bytes the references take.
 fn references_len(s: ItemSet) -> usize
     ensures { (result ≡ references_len s) × (result ≤ 72) }
 {
-    len_if(s.alpha, 14 + len_if(s.premultiplied, 14))
-        + len_if(s.tone_map, 14 + len_if(s.gain_map, 2))
-        + len_if(s.exif, 14)
-        + len_if(s.xmp, 14)
+    len_if(
+        s.alpha,
+        REFERENCE_LEN + len_if(s.premultiplied, REFERENCE_LEN),
+    ) + len_if(s.tone_map, REFERENCE_LEN + len_if(s.gain_map, ID_LEN))
+        + len_if(s.exif, REFERENCE_LEN)
+        + len_if(s.xmp, REFERENCE_LEN)
 }
 
+#[tactic(auto, using(octets::specs::OverwriteLaws::nothing, crate::specs::ItemReferences::reference_laws), unfolding(crate::specs::ItemReferences::iref))]
 pub fn put_iref(out: &mut [u8], at: usize, s: ItemSet) -> usize
     requires { at + iref_len s ≤ length out.old }
     ensures { Wrote out.old at (iref_len s) (iref s) out.new result }

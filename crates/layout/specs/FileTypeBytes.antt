@@ -5,14 +5,10 @@ use Rattle.std.proofs.Common.{length-append}
 use Rattle.octets.specs.BigEndian.{be}
 use Rattle.octets.specs.BigEndianLaws.{length-be}
 use Rattle.ftyp.specs.declared.read.FileTypeBody.{FileTypeBody}
-use Rattle.mini.specs.declared.Span.{Span}
 use Rattle.layout.specs.PartBytes.{span_bytes, length_span}
 
-abbrev pub brands_span : FileTypeBody → Span
-brands_span t = record { at = t.brands_at; len = t.brands_len }
-
 unfoldable pub file_type_bytes : FileTypeBody → List ℕ
-file_type_bytes t = be 4 t.major_brand ++ be 4 t.minor_version ++ span_bytes (brands_span t)
+file_type_bytes t = be 4 t.major_brand ++ be 4 t.minor_version ++ span_bytes t.compatible_brands
 
 -- ---- its length
 pub length-file_type_bytes : (t : FileTypeBody) → length (file_type_bytes t) ≡ 24

@@ -7,6 +7,9 @@ use crate::part::put_flag;
 use mini::{DisplayConditions, MinimizedImage, Size};
 use octets::put;
 
+// How many bytes a desk check is.
+pub const CHECK_LEN: usize = 14;
+
 #[tactic(auto, using(octets::specs::OverwriteLaws::writes), unfolding(crate::specs::CheckBytes::check_parts))]
 fn put_parts(out: &mut [u8], at: usize, meets: bool, d: DisplayConditions) -> usize
     requires { at + 6 ≤ length out.old }
@@ -25,14 +28,14 @@ fn put_size(out: &mut [u8], at: usize, s: Size) -> usize
     requires { at + 8 ≤ length out.old }
     ensures { Wrote out.old at 8 (size_bytes s) out.new result }
 {
-    let at = put::<4>(out, at, s.width as u64);
-    put::<4>(out, at, s.height as u64)
+    let at = put::<4>(out, at, u64::from(s.width));
+    put::<4>(out, at, u64::from(s.height))
 }
 
 #[tactic(auto, using(octets::specs::OverwriteLaws::writes), unfolding(crate::specs::CheckBytes::check_bytes))]
 pub fn put_check(out: &mut [u8], at: usize, i: MinimizedImage) -> usize
-    requires { at + 14 ≤ length out.old }
-    ensures { Wrote out.old at 14 (check_bytes i) out.new result }
+    requires { at + CHECK_LEN ≤ length out.old }
+    ensures { Wrote out.old at CHECK_LEN (check_bytes i) out.new result }
 {
     let at = put_parts(out, at, i.meets_display_profile(), i.display_conditions());
     put_size(out, at, i.shown_size())

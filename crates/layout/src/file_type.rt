@@ -4,22 +4,19 @@ ghost use Rattle.octets.specs.Overwrite.{Wrote};
 ghost use Rattle.layout.specs.FileTypeBytes.{file_type_bytes};
 
 use crate::part::put_span;
+use boxes::put_four_cc;
 use ftyp::read::FileTypeBody;
-use mini::Span;
 use octets::put;
 
+// How many bytes a file type is.
+pub const FILE_TYPE_LEN: usize = 24;
+
+#[tactic(auto, using(octets::specs::OverwriteLaws::writes), unfolding(crate::specs::FileTypeBytes::file_type_bytes))]
 pub fn put_file_type(out: &mut [u8], at: usize, t: FileTypeBody) -> usize
-    requires { at + 24 ≤ length out.old }
-    ensures { Wrote out.old at 24 (file_type_bytes t) out.new result }
+    requires { at + FILE_TYPE_LEN ≤ length out.old }
+    ensures { Wrote out.old at FILE_TYPE_LEN (file_type_bytes t) out.new result }
 {
-    let a = put::<4>(out, at, t.major_brand as u64);
-    let b = put::<4>(out, a, t.minor_version as u64);
-    put_span(
-        out,
-        b,
-        Span {
-            at: t.brands_at,
-            len: t.brands_len,
-        },
-    )
+    let at = put_four_cc(out, at, t.major_brand);
+    let at = put::<4>(out, at, u64::from(t.minor_version));
+    put_span(out, at, t.compatible_brands)
 }

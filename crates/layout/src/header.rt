@@ -3,8 +3,11 @@ ghost use Rattle.std.specs.Prelude.{◌+◌, ◌≤◌, length};
 ghost use Rattle.octets.specs.Overwrite.{Wrote};
 ghost use Rattle.layout.specs.HeaderBytes.{header_bytes, user_type_bytes};
 
-use boxes::{BoxHeader, UserType};
+use boxes::{BoxHeader, UserType, put_four_cc};
 use octets::{put, put_u8, put_zeros};
+
+// How many bytes a header is.
+pub const HEADER_LEN: usize = 45;
 
 #[tactic(auto, using(octets::specs::OverwriteLaws::writes))]
 fn put_user_type(out: &mut [u8], at: usize, t: Option<UserType>) -> usize
@@ -21,10 +24,10 @@ fn put_user_type(out: &mut [u8], at: usize, t: Option<UserType>) -> usize
 
 #[tactic(auto, using(octets::specs::OverwriteLaws::writes), unfolding(crate::specs::HeaderBytes::header_bytes))]
 pub fn put_header(out: &mut [u8], at: usize, h: BoxHeader) -> usize
-    requires { at + 45 ≤ length out.old }
-    ensures { Wrote out.old at 45 (header_bytes h) out.new result }
+    requires { at + HEADER_LEN ≤ length out.old }
+    ensures { Wrote out.old at HEADER_LEN (header_bytes h) out.new result }
 {
-    let at = put::<4>(out, at, h.box_type as u64);
+    let at = put_four_cc(out, at, h.box_type);
     let at = put_user_type(out, at, h.user_type);
     let at = put::<8>(out, at, h.start as u64);
     let at = put::<8>(out, at, h.payload_start as u64);

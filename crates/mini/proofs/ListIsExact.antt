@@ -16,7 +16,7 @@ use Rattle.mini.proofs.Narrowest.{least_good}
 use Rattle.mini.specs.Ranges.{Within, format_iff, gain_format_iff, cicp_iff, types_iff, tmap_iff, chroma_iff, boxes_iff}
 use Rattle.mini.specs.NoPayloadGives.{Lawful, lawful}
 use Rattle.mini.specs.declared.MiniGainMap.{MiniGainMap}
-use Rattle.mini.specs.declared.Span.{Span}
+use Rattle.octets.specs.declared.Span.{Span}
 use Rattle.mini.specs.declared.MinimizedImage.{MinimizedImage}
 
 -- ---- a number in its range fits its field

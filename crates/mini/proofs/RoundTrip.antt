@@ -8,7 +8,7 @@ use Rattle.bits.specs.Format.{◌>>=◌, and_split, and_join, field_if, minus1_i
 use Rattle.bits.specs.Bit.{bits_of, bits_of-append, length-bits_of}
 use Rattle.mini.specs.Syntax.{header, chunk_sizes}
 use Rattle.mini.specs.Read.{read_mini, Reading}
-use Rattle.mini.specs.Chunks.{stored_sizes, chunk_if, stored_places}
+use Rattle.mini.specs.Chunks.{stored_sizes, chunk_if, stored_spans}
 use Rattle.mini.specs.Image.{image_of}
 use Rattle.mini.specs.Bytes.{bytes_take}
 use Rattle.mini.specs.Cut.{within_of, sum, joined, cut, cut-joined, joined-cut, length-joined}
@@ -20,7 +20,7 @@ use Rattle.mini.proofs.RecordHeader.{chunks_again}
 use Rattle.mini.specs.OptionalFields.{field_if-off}
 use Rattle.mini.proofs.Narrowest.{Step, even, over, Same, same_choices, least_good, least_step}
 use Rattle.mini.specs.declared.Header.{Header}
-use Rattle.mini.specs.declared.Span.{Span}
+use Rattle.octets.specs.declared.Span.{Span}
 use Rattle.mini.specs.declared.MinimizedImage.{MinimizedImage}
 use Rattle.mini.specs.RoundTrip.{ReadsTo}
 
@@ -182,10 +182,10 @@ written i s w h =
     (written_with i (least i) s [] w ((header.dec (header_of i)).0 a.0) b.0 b.1)
 
 -- ---- what is read can be written
-not_empty_lem : (n p : ℕ) → T (not_empty (chunk_if (ltb 0 n) p n))
-not_empty_lem n p = go (ltb 0 n) refl
+not_empty_lem : (x : Span) → T (not_empty (chunk_if (ltb 0 x.len) x))
+not_empty_lem x = go (ltb 0 x.len) refl
   where
-    go : (t : Bool) → ltb 0 n ≡ t → T (not_empty (chunk_if t p n))
+    go : (t : Bool) → ltb 0 x.len ≡ t → T (not_empty (chunk_if t x))
     go true e = subst T (sym e) tt
     go false e = tt
 
@@ -194,8 +194,8 @@ found-header : (h : Header) (at : ℕ) → header.Good h → header.Good (header
 found-header h at good = subst (λ (x : Header). header.Good x) (sym (header_again h at good)) good
 
 configs : (h : Header) (at : ℕ) → T (not_empty (image_of h at).alpha_codec_config) × T (not_empty (image_of h at).gain_map.codec_config)
-unfolding image_of stored_places
-configs h at = (not_empty_lem h.sizes.alpha_codec_config _, not_empty_lem h.sizes.gain_map_codec_config _)
+unfolding image_of stored_spans
+configs h at = let p = stored_spans h.sizes at in (not_empty_lem p.alpha_codec_config, not_empty_lem p.gain_map_codec_config)
 
 image_writable : (h : Header) (at : ℕ) → header.Good h → T (writable (image_of h at))
 unfolding writable header_of

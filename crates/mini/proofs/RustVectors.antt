@@ -5,7 +5,7 @@ use Rattle.bits.specs.Bit.{to_n}
 use Rattle.bits.specs.State.{ahead, part, bytes_of, bytes_at, read_bits, read_bytes}
 use Rattle.bits.specs.Format.{◌>>=◌, view}
 use Rattle.mini.specs.Blank.{blank_hdr_boxes}
-use Rattle.mini.specs.Chunks.{stored_sizes, stored_places, end_within}
+use Rattle.mini.specs.Chunks.{stored_sizes, stored_spans, end_within}
 use Rattle.mini.specs.Image.{image_of}
 use Rattle.mini.specs.Payload.{header_bits, chunks_start}
 use Rattle.mini.specs.Read.{bits_to_boundary, past_trailing_bits, test_chunks, read_chunks, read_mini}
@@ -53,11 +53,11 @@ payloads =
     ∷ []
 
 pub rust_read : map (λ x. summary (read_mini x.0).image) payloads ≡ map (λ x. x.1) payloads
-unfolding ahead part bytes_of bytes_at read_bits read_bytes ◌>>=◌ view flags dimensions chroma float_code float_format integer_format sample_format explicit_cicp explicit_codec_types main_format tmap_cicp gain_map_dimension gain_map_format gain_map_header cclv_more cclv cclv_for hdr_boxes chunk_sizes header trailing_bits stored_sizes stored_places end_within image_of bits_to_boundary past_trailing_bits test_chunks read_chunks read_mini
+unfolding ahead part bytes_of bytes_at read_bits read_bytes ◌>>=◌ view flags dimensions chroma float_code float_format integer_format sample_format explicit_cicp explicit_codec_types main_format tmap_cicp gain_map_dimension gain_map_format gain_map_header cclv_more cclv cclv_for hdr_boxes chunk_sizes header trailing_bits stored_sizes stored_spans end_within image_of bits_to_boundary past_trailing_bits test_chunks read_chunks read_mini
 rust_read = refl
 
 pub rust_written : map (λ x. payload_of (read_mini x.0).image x.0) payloads ≡ map (λ x. x.0) payloads
-unfolding ahead part bytes_of bytes_at read_bits read_bytes ◌>>=◌ view flags dimensions chroma float_code float_format integer_format sample_format explicit_cicp explicit_codec_types main_format tmap_cicp gain_map_dimension gain_map_format gain_map_header cclv_more cclv cclv_for hdr_boxes chunk_sizes header trailing_bits stored_sizes stored_places end_within image_of bits_to_boundary past_trailing_bits test_chunks read_chunks read_mini header_bits chunks_start chunks_of well_placed least header_with header_of payload_with payload_of writable unplaced
+unfolding ahead part bytes_of bytes_at read_bits read_bytes ◌>>=◌ view flags dimensions chroma float_code float_format integer_format sample_format explicit_cicp explicit_codec_types main_format tmap_cicp gain_map_dimension gain_map_format gain_map_header cclv_more cclv cclv_for hdr_boxes chunk_sizes header trailing_bits stored_sizes stored_spans end_within image_of bits_to_boundary past_trailing_bits test_chunks read_chunks read_mini header_bits chunks_start chunks_of well_placed least header_with header_of payload_with payload_of writable unplaced
 rust_written = refl
 
 -- ---- a record with everything: two HDR bodies (one a cclv of 5 bytes), a gain map with its own dimensions, alpha, ICC, Exif, XMP
@@ -104,7 +104,7 @@ rich =
             full_range = true;
             chroma = record { subsampling = 0; horizontally_centered = false; vertically_centered = false };
             format = Integer 10;
-            tmap_cicp = Some (record { primaries = 1; transfer = 2; matrix = 3; full_range = true });
+            tmap_cicp = Some (record { cicp = record { primaries = 1; transfer = 2; matrix = 3 }; full_range = true });
             tmap_icc = Some (record { at = 0; len = 2 });
             tmap_hdr = blank_hdr_boxes;
             metadata = record { at = 4; len = 5 };
@@ -127,9 +127,9 @@ abbrev rich_payload : List ℕ
 rich_payload = 0x3F ∷ 0xED ∷ 0x81 ∷ 0x8F ∷ 0x00 ∷ 0x27 ∷ 0x30 ∷ 0x91 ∷ 0x00 ∷ 0x96 ∷ 0x17 ∷ 0x63 ∷ 0x03 ∷ 0x16 ∷ 0x17 ∷ 0x63 ∷ 0x14 ∷ 0x38 ∷ 0x06 ∷ 0x38 ∷ 0x00 ∷ 0x90 ∷ 0x68 ∷ 0x9C ∷ 0x04 ∷ 0x08 ∷ 0x0F ∷ 0x40 ∷ 0x08 ∷ 0x10 ∷ 0x18 ∷ 0x20 ∷ 0x80 ∷ 0x48 ∷ 0x40 ∷ 0x38 ∷ 0x30 ∷ 0x08 ∷ 0x02 ∷ 0x00 ∷ 0x40 ∷ 0x50 ∷ 0x00 ∷ 0x80 ∷ 0x02 ∷ 0x01 ∷ 0x20 ∷ 0x01 ∷ 0x80 ∷ 0x03 ∷ 0x00 ∷ 0x1C ∷ 0x01 ∷ 0x01 ∷ 0xC0 ∷ 0x67 ∷ 0x68 ∷ 0x69 ∷ 0x6A ∷ 0x6B ∷ 0x6C ∷ 0x6D ∷ 0x6E ∷ 0x6F ∷ 0x66 ∷ 0x67 ∷ 0x68 ∷ 0x6D ∷ 0x65 ∷ 0x66 ∷ 0x67 ∷ 0x64 ∷ 0x65 ∷ 0x68 ∷ 0x69 ∷ 0x6A ∷ 0x6B ∷ 0x6C ∷ 0x69 ∷ 0x6A ∷ 0x6B ∷ 0x6C ∷ 0x6D ∷ 0x6E ∷ 0x6E ∷ 0x6F ∷ 0x70 ∷ 0x71 ∷ 0x64 ∷ 0x65 ∷ 0x66 ∷ 0x67 ∷ 0x68 ∷ 0x69 ∷ 0x6A ∷ 0x65 ∷ 0x66 ∷ 0x6C ∷ 0x6D ∷ 0x6E ∷ 0x6F ∷ 0x70 ∷ 0x71 ∷ 0x72 ∷ 0x73 ∷ []
 
 pub rich_read : ((read_mini rich_payload).refusal ≡ 0) × (unplaced (read_mini rich_payload).image ≡ unplaced rich) × (chunks_of (read_mini rich_payload).image rich_payload ≡ chunks_of rich source)
-unfolding ahead part bytes_of bytes_at read_bits read_bytes ◌>>=◌ view flags dimensions chroma float_code float_format integer_format sample_format explicit_cicp explicit_codec_types main_format tmap_cicp gain_map_dimension gain_map_format gain_map_header cclv_more cclv cclv_for hdr_boxes chunk_sizes header trailing_bits stored_sizes stored_places end_within image_of bits_to_boundary past_trailing_bits test_chunks read_chunks read_mini chunks_of unplaced
+unfolding ahead part bytes_of bytes_at read_bits read_bytes ◌>>=◌ view flags dimensions chroma float_code float_format integer_format sample_format explicit_cicp explicit_codec_types main_format tmap_cicp gain_map_dimension gain_map_format gain_map_header cclv_more cclv cclv_for hdr_boxes chunk_sizes header trailing_bits stored_sizes stored_spans end_within image_of bits_to_boundary past_trailing_bits test_chunks read_chunks read_mini chunks_of unplaced
 rich_read = (refl, refl, refl)
 
 pub rich-written : (payload_of rich source ≡ rich_payload) × ((writable rich && well_placed rich source) ≡ true)
-unfolding ahead part bytes_of bytes_at read_bits read_bytes ◌>>=◌ view flags dimensions chroma float_code float_format integer_format sample_format explicit_cicp explicit_codec_types main_format tmap_cicp gain_map_dimension gain_map_format gain_map_header cclv_more cclv cclv_for hdr_boxes chunk_sizes header trailing_bits stored_sizes stored_places end_within image_of bits_to_boundary past_trailing_bits test_chunks read_chunks read_mini header_bits chunks_start chunks_of well_placed least header_with header_of payload_with payload_of writable unplaced
+unfolding ahead part bytes_of bytes_at read_bits read_bytes ◌>>=◌ view flags dimensions chroma float_code float_format integer_format sample_format explicit_cicp explicit_codec_types main_format tmap_cicp gain_map_dimension gain_map_format gain_map_header cclv_more cclv cclv_for hdr_boxes chunk_sizes header trailing_bits stored_sizes stored_spans end_within image_of bits_to_boundary past_trailing_bits test_chunks read_chunks read_mini header_bits chunks_start chunks_of well_placed least header_with header_of payload_with payload_of writable unplaced
 rich-written = (refl, refl)

@@ -1,7 +1,7 @@
 -- The blank record, which goes with every refusal: numbers 0, flags false, formats integer of 0 bits, chunks absent, or empty at 0 where
 -- they are always present, all other options absent. Document 01, 'What goes back when it cannot be done'.
 use Rattle.std.specs.Prelude.{false, replicate, None}
-use Rattle.mini.specs.declared.Span.{Span}
+use Rattle.octets.specs.declared.Span.{Span}
 use Rattle.mini.specs.declared.SampleFormat.TheVariants.{Integer}
 use Rattle.mini.specs.declared.MiniHdrBoxes.{MiniHdrBoxes}
 use Rattle.mini.specs.declared.MiniGainMap.{MiniGainMap}

@@ -2,8 +2,8 @@
 -- given in one order, and they lie in another.
 use Rattle.std.specs.Prelude.{◌≡◌, refl, Bool, true, false, ◌&&◌, List, [], ◌∷◌, ℕ, ◌+◌, leb, Option, Some, None}
 use Rattle.mini.specs.Views.{SizeParts, sizes_from}
-use Rattle.mini.specs.declared.Span.{Span}
-use Rattle.mini.specs.declared.ChunkPlaces.{ChunkPlaces}
+use Rattle.octets.specs.declared.Span.{Span}
+use Rattle.mini.specs.declared.ChunkSpans.{ChunkSpans}
 use Rattle.mini.specs.declared.ChunkSizes.{ChunkSizes}
 
 -- the sizes as the header gives them
@@ -38,19 +38,24 @@ stored_sizes z =
     ∷ z.xmp
     ∷ []
 
+-- the part of len bytes behind another
+abbrev pub span_behind : Span → ℕ → Span
+span_behind x len = record { at = x.at + x.len; len = len }
+
 -- where the chunks lie: the first at a place, each other behind the one before
-unfoldable pub stored_places : ChunkSizes → ℕ → ChunkPlaces
-stored_places z main_config =
-    let alpha_config = main_config + z.main_codec_config in
-    let gain_map_config = alpha_config + z.alpha_codec_config in
-    let icc = gain_map_config + z.gain_map_codec_config in
-    let tmap_icc = icc + z.icc in
-    let gain_map_metadata = tmap_icc + z.tmap_icc in
-    let alpha_data = gain_map_metadata + z.gain_map_metadata in
-    let gain_map_data = alpha_data + z.alpha_data in
-    let main_data = gain_map_data + z.gain_map_data in
-    let exif = main_data + z.main_data in
-    let xmp = exif + z.exif in
+unfoldable pub stored_spans : ChunkSizes → ℕ → ChunkSpans
+stored_spans z at =
+    let main_config : Span = record { at = at; len = z.main_codec_config } in
+    let alpha_config = span_behind main_config z.alpha_codec_config in
+    let gain_map_config = span_behind alpha_config z.gain_map_codec_config in
+    let icc = span_behind gain_map_config z.icc in
+    let tmap_icc = span_behind icc z.tmap_icc in
+    let gain_map_metadata = span_behind tmap_icc z.gain_map_metadata in
+    let alpha_data = span_behind gain_map_metadata z.alpha_data in
+    let gain_map_data = span_behind alpha_data z.gain_map_data in
+    let main_data = span_behind gain_map_data z.main_data in
+    let exif = span_behind main_data z.exif in
+    let xmp = span_behind exif z.xmp in
     record {
       main_codec_config = main_config;
       alpha_codec_config = alpha_config;
@@ -71,14 +76,14 @@ end_within n at [] = true
 end_within n at (size ∷ sizes) = leb (at + size) n && end_within n (at + size) sizes
 
 -- ---- a chunk of the record
-abbrev pub chunk_if : Bool → ℕ → ℕ → Option Span
-chunk_if true at len = Some (record { at = at; len = len })
-chunk_if false at len = None
+abbrev pub chunk_if : Bool → Span → Option Span
+chunk_if true x = Some x
+chunk_if false x = None
 
 -- one that is always there: at 0 where its owner is absent
-abbrev pub span_if : Bool → ℕ → ℕ → Span
-span_if true at len = record { at = at; len = len }
-span_if false at len = record { at = 0; len = len }
+abbrev pub span_if : Bool → Span → Span
+span_if true x = x
+span_if false x = record { at = 0; len = x.len }
 
 -- ---- the order given is that of the header's fields
 sizes_in : SizeParts → List ℕ

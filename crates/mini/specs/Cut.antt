@@ -1,7 +1,8 @@
 -- A list of bytes cut into chunks of given sizes, one after another, and joined again; all the chunks end within the bytes exactly where
 -- the last does. Assumes nothing.
-use Rattle.std.specs.Prelude.{Bool, true, false, ◌&&◌, ◌≡◌, refl, List, [], ◌∷◌, ◌++◌, map, ℕ, ◌+◌, ◌≤◌, T, leb, length, take, drop}
-use Rattle.std.proofs.Common.{sym, ap, ap₂, ◌∙◌, append_assoc, add-zero, add_assoc, arith, leb→le, le→leb, length-append, take-append-drop, take_at, drop_at, drop-drop, leb-true, leb-false}
+use Rattle.std.specs.Prelude.{Bool, true, false, ◌&&◌, ◌≡◌, refl, List, [], ◌∷◌, ◌++◌, map, ℕ, ◌+◌, ◌≤◌, ◌<◌, T, leb, length, take, drop, get_or}
+use Rattle.std.proofs.Common.{sym, ap, ap₂, ◌∙◌, append-nil, append_assoc, add-one, add-zero, add_assoc, arith, leb→le, le→leb, length-append, take-append-drop, take-suc, take_at, drop_at, drop-drop, leb-true, leb-false}
+use Rattle.std.proofs.lemmas.List.{map-append}
 use Rattle.bits.specs.Format.{and_split, and_join}
 use Rattle.mini.specs.Chunks.{end_within}
 
@@ -16,6 +17,11 @@ joined (c ∷ cs) = c ++ joined cs
 pub joined-append : (l m : List (List ℕ)) → joined (l ++ m) ≡ joined l ++ joined m
 joined-append [] m = refl
 joined-append (x ∷ l) m = ap (λ (y : List ℕ). x ++ y) (joined-append l m) ∙ sym (append_assoc x (joined l) (joined m))
+
+-- of what is written item by item, one item more
+pub joined_more : {A : Type 0} (f : A → List ℕ) (xs : List A) (k : ℕ) (d : A) → k < length xs
+    → joined (map f (take (k + 1) xs)) ≡ joined (map f (take k xs)) ++ f (get_or xs k d)
+joined_more f xs k d h = rw (add-one, take-suc xs k d h) (simp (map-append, joined-append, append-nil))
 
 -- the chunks of the given sizes, one after another from at on
 abbrev pub cut : ℕ → List ℕ → List ℕ → List (List ℕ)

@@ -12,7 +12,7 @@ use Rattle.mini.specs.Write.{not_empty, Choices, least, header_with, header_of, 
 use Rattle.mini.specs.RecordHeader.{parts}
 use Rattle.mini.specs.OptionalFields.{field_if-off, flag_if-off, gain_more}
 use Rattle.mini.specs.Ranges.{Within, FormatIn, format_iff, gain_format_iff, CicpIn, cicp_iff, TypesIn, types_iff, TmapIn, tmap_iff, Centred, chroma_iff, Bodies, boxes_iff}
-use Rattle.mini.specs.declared.Span.{Span}
+use Rattle.octets.specs.declared.Span.{Span}
 use Rattle.mini.specs.declared.TmapCicp.{TmapCicp}
 use Rattle.mini.specs.declared.MiniChroma.{MiniChroma}
 use Rattle.mini.specs.declared.MinimizedImage.{MinimizedImage}

@@ -93,7 +93,7 @@ types_iff (Some c) = (
 -- ---- the tone-mapped picture's colour, where it is told
 abbrev pub TmapIn : Option TmapCicp → Type 0
 TmapIn None = Unit {0}
-TmapIn (Some c) = (c.primaries ≤ 255) × (c.transfer ≤ 255) × (c.matrix ≤ 255)
+TmapIn (Some c) = (c.cicp.primaries ≤ 255) × (c.cicp.transfer ≤ 255) × (c.cicp.matrix ≤ 255)
 
 pub tmap_iff : (c : Option TmapCicp) → (tmap_cicp (is_some c)).Good c ↔ TmapIn c
 unfolding tmap_cicp ◌>>=◌ view

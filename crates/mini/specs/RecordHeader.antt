@@ -4,13 +4,13 @@ use Rattle.std.proofs.Common.{sym, ap, ◌∙◌, arith, ltb→lt, ltb-false, lt
 use Rattle.bits.specs.Format.{◌>>=◌, minus1_if, flag_if, view}
 use Rattle.mini.specs.Syntax.{header, flags, dimensions, main_format, gain_map_header, hdr_boxes, chunk_sizes, chroma, sample_format, float_format, integer_format, gain_map_format, explicit_cicp, explicit_codec_types, tmap_cicp}
 use Rattle.mini.specs.Views.{is_float, cicp_told, types_told, tmap_told}
-use Rattle.mini.specs.Chunks.{chunk_if, span_if, stored_places}
+use Rattle.mini.specs.Chunks.{chunk_if, span_if, stored_spans}
 use Rattle.mini.specs.Image.{image_of}
 use Rattle.mini.specs.Same.{chunk_len, unplaced_chunk, unplaced}
 use Rattle.mini.specs.Write.{Choices, header_with, not_empty}
 use Rattle.mini.specs.declared.SampleFormat.{SampleFormat}
 use Rattle.mini.specs.declared.MiniChroma.{MiniChroma}
-use Rattle.mini.specs.declared.Span.{Span}
+use Rattle.octets.specs.declared.Span.{Span}
 use Rattle.mini.specs.declared.CodecTypes.{CodecTypes}
 use Rattle.mini.specs.declared.Cicp.{Cicp}
 use Rattle.mini.specs.declared.TmapCicp.{TmapCicp}
@@ -18,21 +18,21 @@ use Rattle.mini.specs.declared.Header.{Header}
 use Rattle.mini.specs.declared.MinimizedImage.{MinimizedImage}
 
 -- ---- record, header, record
-chunk_again : (p : ℕ) (c : Option Span) → unplaced_chunk (chunk_if (is_some c) p (chunk_len c)) ≡ unplaced_chunk c
+chunk_again : (p : ℕ) (c : Option Span) → unplaced_chunk (chunk_if (is_some c) (record { at = p; len = chunk_len c })) ≡ unplaced_chunk c
 chunk_again p None = refl
 chunk_again p (Some x) = refl
 
-config_again : (c : Option Span) → T (not_empty c) → (p : ℕ) → unplaced_chunk (chunk_if (ltb 0 (chunk_len c)) p (chunk_len c)) ≡ unplaced_chunk c
+config_again : (c : Option Span) → T (not_empty c) → (p : ℕ) → unplaced_chunk (chunk_if (ltb 0 (chunk_len c)) (record { at = p; len = chunk_len c })) ≡ unplaced_chunk c
 config_again None h p = refl
-config_again (Some x) h p = ap (λ (t : Bool). unplaced_chunk (chunk_if t p x.len)) (lt-ltb 0 x.len (ltb→lt 0 x.len h))
+config_again (Some x) h p = ap (λ (t : Bool). unplaced_chunk (chunk_if t (record { at = p; len = x.len }))) (lt-ltb 0 x.len (ltb→lt 0 x.len h))
 
-span_again : (t : Bool) (p len : ℕ) → (span_if t p len).len ≡ len
-span_again true p len = refl
-span_again false p len = refl
+span_again : (t : Bool) (x : Span) → (span_if t x).len ≡ x.len
+span_again true x = refl
+span_again false x = refl
 
 pub image_again : (i : MinimizedImage) (c : Choices) (at : ℕ) → T (not_empty i.alpha_codec_config) → T (not_empty i.gain_map.codec_config)
     → unplaced (image_of (header_with i c) at) ≡ unplaced i
-unfolding unplaced image_of stored_places header_with
+unfolding unplaced image_of stored_spans header_with
 image_again i c at h k =
     simp (chunk_again, config_again i.alpha_codec_config h, config_again i.gain_map.codec_config k, span_again)
 
@@ -97,23 +97,23 @@ sub_of : (sub : ℕ) (c : MiniChroma) → (chroma sub).Good c → c.subsampling 
 unfolding chroma ◌>>=◌ view
 sub_of sub c g = sym (ap (λ (x : MiniChroma). x.subsampling) g.1)
 
-present_again : (t : Bool) (p n : ℕ) → is_some (chunk_if t p n) ≡ t
-present_again true p n = refl
-present_again false p n = refl
+present_again : (t : Bool) (x : Span) → is_some (chunk_if t x) ≡ t
+present_again true x = refl
+present_again false x = refl
 
-len_again : (t : Bool) (w n : ℕ) → (minus1_if t w).Good n → (p : ℕ) → chunk_len (chunk_if t p n) ≡ n
+len_again : (t : Bool) (w n : ℕ) → (minus1_if t w).Good n → (p : ℕ) → chunk_len (chunk_if t (record { at = p; len = n })) ≡ n
 len_again true w n g p = refl
 len_again false w n g p = sym g
 
-len_again' : (has t : Bool) (w n : ℕ) → (minus1_if (has && t) w).Good n → (p : ℕ) → chunk_len (chunk_if t p n) ≡ n
+len_again' : (has t : Bool) (w n : ℕ) → (minus1_if (has && t) w).Good n → (p : ℕ) → chunk_len (chunk_if t (record { at = p; len = n })) ≡ n
 len_again' has true w n g p = refl
 len_again' true false w n g p = sym g
 len_again' false false w n g p = sym g
 
-config_len : (n p : ℕ) → chunk_len (chunk_if (ltb 0 n) p n) ≡ n
+config_len : (n p : ℕ) → chunk_len (chunk_if (ltb 0 n) (record { at = p; len = n })) ≡ n
 config_len n p = go (ltb 0 n) refl
   where
-    go : (t : Bool) → ltb 0 n ≡ t → chunk_len (chunk_if t p n) ≡ n
+    go : (t : Bool) → ltb 0 n ≡ t → chunk_len (chunk_if t (record { at = p; len = n })) ≡ n
     go true e = refl
     go false e = omega (arith, ltb-false 0 n e)
 
@@ -128,7 +128,7 @@ choices_of h =
     }
 
 pub header_again : (h : Header) (at : ℕ) → header.Good h → header_with (image_of h at) (choices_of h) ≡ h
-unfolding header_with image_of stored_places choices_of main_format gain_map_header chunk_sizes ◌>>=◌ view
+unfolding header_with image_of stored_spans choices_of main_format gain_map_header chunk_sizes ◌>>=◌ view
 header_again h at good =
     let g = parts h good in
     let e1 = types_flag h.flags.explicit_codec_types h.main.explicit_codec_types g.main_ok.0.1.1.1.1 in

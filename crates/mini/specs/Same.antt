@@ -1,7 +1,7 @@
 -- A record positions aside, its chunks in the source lent with it, and when it is well placed: document 01, 'The record and its order of
 -- bits' ('Two records are the same when all fields and chunk bytes agree, positions aside') and refusal 10.
 use Rattle.std.specs.Prelude.{Bool, true, not, ◌&&◌, ◌||◌, List, [], ◌∷◌, ℕ, ◌+◌, leb, length, take, drop, Option, Some, None}
-use Rattle.mini.specs.declared.Span.{Span}
+use Rattle.octets.specs.declared.Span.{Span}
 use Rattle.mini.specs.declared.MinimizedImage.{MinimizedImage}
 
 abbrev pub chunk_len : Option Span → ℕ

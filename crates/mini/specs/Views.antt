@@ -160,6 +160,10 @@ pub cicp_told : (c : Option Cicp) → T (is_some c) ↔ (cicp_to (cicp_from c) �
 cicp_told None = (λ t. absurd t, λ e. subst (λ (c : Option Cicp). T (is_some c)) e tt)
 cicp_told (Some c) = (λ t. refl, λ e. tt)
 
+-- its three fields
+abbrev pub cicp_fields : Format (ℕ × (ℕ × ℕ))
+cicp_fields = field 8 >>= λ primaries. field 8 >>= λ transfer. field 8
+
 abbrev pub as_cicp : Format (ℕ × (ℕ × ℕ)) → Format (Option Cicp)
 as_cicp p = view cicp_to cicp_from is_some p (λ x g. refl) cicp_told
 
@@ -181,11 +185,11 @@ as_codec_types p = view codec_types_to codec_types_from is_some p (λ x g. refl)
 -- ---- the tone-mapped picture's colour, where it is told
 abbrev pub tmap_cicp_to : ℕ × (ℕ × (ℕ × Bool)) → Option TmapCicp
 tmap_cicp_to (primaries, (transfer, (matrix, full))) =
-    Some (record { primaries = primaries; transfer = transfer; matrix = matrix; full_range = full })
+    Some (record { cicp = record { primaries = primaries; transfer = transfer; matrix = matrix }; full_range = full })
 
 abbrev pub tmap_cicp_from : Option TmapCicp → ℕ × (ℕ × (ℕ × Bool))
 tmap_cicp_from None = (0, (0, (0, false)))
-tmap_cicp_from (Some c) = (c.primaries, (c.transfer, (c.matrix, c.full_range)))
+tmap_cicp_from (Some c) = (c.cicp.primaries, (c.cicp.transfer, (c.cicp.matrix, c.full_range)))
 
 pub tmap_told : (c : Option TmapCicp) → T (is_some c) ↔ (tmap_cicp_to (tmap_cicp_from c) ≡ c)
 tmap_told None = (λ t. absurd t, λ e. subst (λ (c : Option TmapCicp). T (is_some c)) e tt)

@@ -8,7 +8,7 @@ use Rattle.mini.specs.Same.{chunk_len, chunks_of}
 use Rattle.mini.specs.Syntax.{header}
 use Rattle.mini.specs.Views.{is_float}
 use Rattle.mini.specs.declared.Header.{Header}
-use Rattle.mini.specs.declared.Span.{Span}
+use Rattle.octets.specs.declared.Span.{Span}
 use Rattle.mini.specs.declared.MinimizedImage.{MinimizedImage}
 
 -- ---- the choices of width

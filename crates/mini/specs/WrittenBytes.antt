@@ -7,7 +7,7 @@ use Rattle.mini.specs.Bytes.{bytes-append, bytes_take, bytes_drop}
 use Rattle.mini.specs.Payload.{header_bits, chunks_start}
 use Rattle.mini.specs.Same.{chunk_bytes, span_bytes, chunks_of}
 use Rattle.mini.specs.Write.{payload_with, payload_of, header_of}
-use Rattle.mini.specs.declared.Span.{Span}
+use Rattle.octets.specs.declared.Span.{Span}
 use Rattle.mini.specs.declared.MinimizedImage.{MinimizedImage}
 
 chunk_bytes_lem : (c : Option Span) (s : List ℕ) → T (are_bytes s) → T (are_bytes (chunk_bytes c s))

@@ -1,7 +1,7 @@
-// The record of a MinimizedImageBox, the parts of its header, and what a reading gives (ISO/IEC 23008-12 Amd 2, Annex O).
+// The record of a MinimizedImageBox and the parts of its header (ISO/IEC 23008-12 Amd 2, Annex O).
 #![tactic(auto)]
 
-ghost use Rattle.std.specs.Prelude.{◌≡◌, ◌≤◌};
+ghost use Rattle.std.specs.Prelude.{◌≡◌, ◌≤◌, eqb};
 ghost use Rattle.mini.specs.Cclv.{cclv_more};
 ghost use Rattle.mini.specs.Cicp.{table_cicp, cicp_of};
 ghost use Rattle.mini.specs.DisplayProfile.{display_conditions, meets_display_profile};
@@ -10,6 +10,7 @@ ghost use Rattle.mini.specs.ShownSize.{shown_size};
 ghost use Rattle.mini.specs.Views.{is_float, bits_in};
 
 use bits::Widths;
+pub use octets::Span;
 
 // The widths of the fields that have a long form and a short one.
 pub const DIMENSION: Widths = Widths { long: 15, short: 7 };
@@ -33,39 +34,37 @@ pub enum SampleFormat {
 }
 
 // The types of the main item and of its configuration.
-#[derive(Clone, Copy, Debug, PartialEq, Eq)]
+#[derive(Clone, Copy, Debug, PartialEq, Eq, Default)]
 pub struct CodecTypes {
     pub infe_type: u32,
     pub codec_config_type: u32,
 }
 
 // Colour primaries, transfer characteristics and matrix coefficients.
-#[derive(Clone, Copy, Debug, PartialEq, Eq)]
+#[derive(Clone, Copy, Debug, PartialEq, Eq, Default)]
 pub struct Cicp {
     pub primaries: u8,
     pub transfer: u8,
     pub matrix: u8,
 }
 
-// The same of the tone-mapped picture, with its range.
-#[derive(Clone, Copy, Debug, PartialEq, Eq)]
+// The colour of the tone-mapped picture, with its range.
+#[derive(Clone, Copy, Debug, PartialEq, Eq, Default)]
 pub struct TmapCicp {
-    pub primaries: u8,
-    pub transfer: u8,
-    pub matrix: u8,
+    pub cicp: Cicp,
     pub full_range: bool,
 }
 
-#[derive(Clone, Copy, Debug, PartialEq, Eq)]
+#[derive(Clone, Copy, Debug, PartialEq, Eq, Default)]
 pub struct MiniChroma {
     pub subsampling: u8,
     pub horizontally_centered: bool,
     pub vertically_centered: bool,
 }
 
-// The bodies, each with zeros where it is absent, and after a cclv's length. By a rule of the project a flag stands beside each, in place of an
-// Option, since they are arrays.
-#[derive(Clone, Copy)]
+// The bodies, each with zeros where it is absent, and after a cclv's length. A rule of the project (document 01) asks for a flag beside each,
+// and not an Option.
+#[derive(Clone, Copy, Debug, PartialEq, Eq)]
 pub struct MiniHdrBoxes {
     pub has_clli: bool,
     pub has_mdcv: bool,
@@ -81,17 +80,10 @@ pub struct MiniHdrBoxes {
     pub ndwt: [u8; 4],
 }
 
-// A part of the payload, perhaps empty.
-#[derive(Clone, Copy, Debug, PartialEq, Eq)]
-pub struct Span {
-    pub at: usize,
-    pub len: usize,
-}
-
 // A part of the payload that may be absent.
 pub type Chunk = Option<Span>;
 
-#[derive(Clone, Copy)]
+#[derive(Clone, Copy, Debug, PartialEq, Eq)]
 pub struct MiniGainMap {
     pub width: u32,
     pub height: u32,
@@ -108,9 +100,8 @@ pub struct MiniGainMap {
     pub data: Span,
 }
 
-// The gain map is blank where has_gain_map is false. By a rule of the project the flag stands beside it, in place of an Option, since it holds
-// arrays.
-#[derive(Clone, Copy)]
+// The gain map is blank where has_gain_map is false: the flag is there by the same rule.
+#[derive(Clone, Copy, Debug, PartialEq, Eq)]
 pub struct MinimizedImage {
     // None: inferred from the brand in the file type's minor version.
     pub explicit_codec_types: Option<CodecTypes>,
@@ -139,7 +130,7 @@ pub struct MinimizedImage {
 }
 
 // The header's first sixteen bits.
-#[derive(Clone, Copy)]
+#[derive(Clone, Copy, Debug, PartialEq, Eq)]
 pub struct Flags {
     pub explicit_codec_types: bool,
     pub float: bool,
@@ -154,7 +145,7 @@ pub struct Flags {
     pub orientation: u8,
 }
 
-#[derive(Clone, Copy)]
+#[derive(Clone, Copy, Debug, PartialEq, Eq)]
 pub struct Dimensions {
     pub large: bool,
     pub width: u32,
@@ -162,7 +153,7 @@ pub struct Dimensions {
 }
 
 // What the header says of the main picture's samples and coding.
-#[derive(Clone, Copy)]
+#[derive(Clone, Copy, Debug, PartialEq, Eq)]
 pub struct MainFormat {
     pub chroma: MiniChroma,
     pub format: SampleFormat,
@@ -171,8 +162,9 @@ pub struct MainFormat {
     pub explicit_codec_types: Option<CodecTypes>,
 }
 
-// The gain map's part of the header, before the HDR boxes: blank where `present` is false, as the record's gain map is.
-#[derive(Clone, Copy)]
+// The gain map's part of the header, before the HDR boxes: blank where `present` is false. Here and above, a flag that the header has stands beside
+// what it brings, since both are fields of the syntax table.
+#[derive(Clone, Copy, Debug, PartialEq, Eq, Default)]
 pub struct GainMapHeader {
     pub present: bool,
     pub same_dimensions: bool,
@@ -190,7 +182,7 @@ pub struct GainMapHeader {
 }
 
 // The sizes of the chunks in bytes, 0 for what is absent, with the flags for the long forms.
-#[derive(Clone, Copy)]
+#[derive(Clone, Copy, Debug, PartialEq, Eq)]
 pub struct ChunkSizes {
     pub large_metadata: bool,
     pub large_codec_config: bool,
@@ -209,24 +201,24 @@ pub struct ChunkSizes {
     pub xmp: usize,
 }
 
-// Where each chunk lies, or would lie.
-#[derive(Clone, Copy)]
-pub struct ChunkPlaces {
-    pub main_codec_config: usize,
-    pub alpha_codec_config: usize,
-    pub gain_map_codec_config: usize,
-    pub icc: usize,
-    pub tmap_icc: usize,
-    pub gain_map_metadata: usize,
-    pub alpha_data: usize,
-    pub gain_map_data: usize,
-    pub main_data: usize,
-    pub exif: usize,
-    pub xmp: usize,
+// Where each chunk lies, in the order in which they are stored; an absent one, where it would.
+#[derive(Clone, Copy, Debug, PartialEq, Eq)]
+pub struct ChunkSpans {
+    pub main_codec_config: Span,
+    pub alpha_codec_config: Span,
+    pub gain_map_codec_config: Span,
+    pub icc: Span,
+    pub tmap_icc: Span,
+    pub gain_map_metadata: Span,
+    pub alpha_data: Span,
+    pub gain_map_data: Span,
+    pub main_data: Span,
+    pub exif: Span,
+    pub xmp: Span,
 }
 
 // All that stands before the chunks.
-#[derive(Clone, Copy)]
+#[derive(Clone, Copy, Debug, PartialEq, Eq)]
 pub struct Header {
     pub flags: Flags,
     pub dimensions: Dimensions,
@@ -238,23 +230,23 @@ pub struct Header {
 }
 
 // The number of an item in the equivalent file (mini.rs, item_id); document 01: the numbers 1 to 7 belong to the item kind.
-#[derive(Clone, Copy)]
+#[derive(Clone, Copy, Debug, PartialEq, Eq)]
 pub struct ItemKind(pub u16);
 
 impl ItemKind {
-    pub const MAIN: u16 = 1;
+    pub const MAIN: ItemKind = ItemKind(1);
 
-    pub const ALPHA: u16 = 2;
+    pub const ALPHA: ItemKind = ItemKind(2);
 
-    pub const TMAP: u16 = 3;
+    pub const TMAP: ItemKind = ItemKind(3);
 
-    pub const GAIN_MAP: u16 = 4;
+    pub const GAIN_MAP: ItemKind = ItemKind(4);
 
-    pub const ALTR_GROUP: u16 = 5;
+    pub const ALTR_GROUP: ItemKind = ItemKind(5);
 
-    pub const EXIF: u16 = 6;
+    pub const EXIF: ItemKind = ItemKind(6);
 
-    pub const XMP: u16 = 7;
+    pub const XMP: ItemKind = ItemKind(7);
 }
 
 // Width and height.
@@ -285,6 +277,43 @@ pub fn chunk_len(chunk: Chunk) -> usize
     chunk.map_or(0, |span| span.len)
 }
 
+// Integers of 0 bits, as in a blank record.
+impl Default for SampleFormat {
+    ghost use Rattle.std.specs.Prelude.{◌≡◌};
+    ghost use Rattle.mini.specs.declared.SampleFormat.TheVariants.{Integer};
+
+    ghost is_default = { λ f. f ≡ Integer 0 };
+
+    fn default() -> Self {
+        SampleFormat::Integer { bits: 0 }
+    }
+}
+
+// No bodies. A derived one would fill the arrays byte by byte, and say less.
+impl Default for MiniHdrBoxes {
+    ghost use Rattle.std.specs.Prelude.{◌≡◌};
+    ghost use Rattle.mini.specs.Blank.{blank_hdr_boxes};
+
+    ghost is_default = { λ h. h ≡ blank_hdr_boxes };
+
+    fn default() -> Self {
+        MiniHdrBoxes {
+            has_clli: false,
+            has_mdcv: false,
+            has_cclv: false,
+            has_amve: false,
+            has_reve: false,
+            has_ndwt: false,
+            clli: [0; 4],
+            mdcv: [0; 24],
+            cclv: [0; 37],
+            amve: [0; 8],
+            reve: [0; 20],
+            ndwt: [0; 4],
+        }
+    }
+}
+
 impl SampleFormat {
     // The bits of a sample.
     pub fn bits(self) -> u8
@@ -302,22 +331,31 @@ impl SampleFormat {
     }
 }
 
+impl MiniChroma {
+    // 4:0:0.
+    pub fn is_monochrome(self) -> bool
+        ensures { result ≡ eqb self.subsampling 0 }
+    {
+        self.subsampling == 0
+    }
+}
+
 // How many bytes follow a cclv's first.
 #[tactic(auto, unfolding(crate::specs::Cclv::cclv_more))]
 pub fn cclv_more(flags: u8) -> usize
     ensures value { result ≡ cclv_more flags }
     ensures upper_bound { result ≤ 36 }
 {
-    let f = flags as usize;
-    24 * (f / 32 % 2) + 4 * (f / 16 % 2) + 4 * (f / 8 % 2) + 4 * (f / 4 % 2)
+    let f = usize::from(flags);
+    24 * (f >> 5 & 1) + 4 * ((f >> 4 & 1) + (f >> 3 & 1) + (f >> 2 & 1))
 }
 
 // The values of Table O.3, with or without an ICC profile.
-fn table_cicp(icc: bool, subsampling: u8) -> Cicp
-    ensures { result ≡ table_cicp icc subsampling }
+fn table_cicp(icc: bool, chroma: MiniChroma) -> Cicp
+    ensures { result ≡ table_cicp icc chroma.subsampling }
 {
     let (primaries, transfer) = if icc { (2, 2) } else { (1, 13) };
-    let matrix = if subsampling == 0 { 2 } else { 6 };
+    let matrix = if chroma.is_monochrome() { 2 } else { 6 };
     Cicp {
         primaries,
         transfer,
@@ -331,7 +369,7 @@ impl MinimizedImage {
         ensures { result ≡ cicp_of self }
     {
         self.explicit_cicp
-            .unwrap_or(table_cicp(self.icc.is_some(), self.chroma.subsampling))
+            .unwrap_or(table_cicp(self.icc.is_some(), self.chroma))
     }
 
     // Width and height as shown: the orientations 5 to 8 exchange them.

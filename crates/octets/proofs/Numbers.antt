@@ -1,10 +1,10 @@
 -- Big-endian numbers, as std's conversions of eight bytes have them.
-use Rattle.std.proofs.Common.{◌≡◌, refl, List, ◌∷◌, ◌++◌, ℕ, zero, suc, ◌+◌, ◌-◌, ◌*◌, ◌/◌, ◌%◌, ◌^◌, ◌<◌, ◌≤◌, ◌∙◌, length, replicate, take, drop, get_or, arith, sym, ap, pow-suc, length-take-le, length-drop}
+use Rattle.std.proofs.Common.{Fits, w8, take_all, ◌≡◌, refl, List, ◌∷◌, ◌++◌, ℕ, zero, suc, ◌+◌, ◌-◌, ◌*◌, ◌/◌, ◌%◌, ◌^◌, ◌<◌, ◌≤◌, ◌∙◌, length, replicate, take, drop, get_or, arith, sym, ap, pow-suc, length-take-le, length-drop}
 use native.Mathlib.Numerals.{towards_numerals}
 use Rattle.std.specs.Int.{bytes_high_first}
 use Rattle.std.proofs.lemmas.List.{take-append-drop, take-replicate, length-replicate}
 use Rattle.octets.specs.BigEndian.{be, num}
-use Rattle.octets.specs.BigEndianLaws.{be_split, num_split, num-append, num_shift}
+use Rattle.octets.specs.BigEndianLaws.{length-be, be_split, num_split, num-append, num_shift}
 
 -- ---- writing
 be_high_first : (n x : ℕ) → bytes_high_first n x ≡ be n x
@@ -85,3 +85,13 @@ number n at from k s p q h room there e was =
     ∙ ap (λ (l : List ℕ). num n l 0) same
     ∙ ap (λ (j : ℕ). num n (take j (drop at s)) 0) e
     ∙ num_part n at s room
+
+-- it is below 256 ^ n
+pub number_bound : (n at from k : ℕ) (s p q : List ℕ) → ((k : ℕ) → Fits w8 (get_or s k 0)) → n ≤ 8 → at + n ≤ length s → from ≡ at → k ≡ n → p ≡ take k (drop from s)
+    → num 8 (take (8 - n) (replicate 8 0) ++ (p ++ q)) 0 < 256 ^ n
+number_bound n at from k s p q h a b c d e = rw (number n at from k s p q a b c d e) (num_bound n s at (λ k. (h k).fits))
+
+-- by which `grind` sees what `put` and `get` do
+pub ruleset putting = (length-be, last_bytes, take_all, length-drop)
+
+pub ruleset getting = (eight, number, number_bound)

@@ -5,9 +5,17 @@
 ghost use Rattle.std.specs.Prelude.{◌≡◌, [], ◌∷◌, ◌+◌, ◌^◌, ◌≤◌, ◌<◌, length, replicate};
 ghost use Rattle.octets.specs.BigEndian.{be, num};
 ghost use Rattle.octets.specs.Overwrite.{Wrote};
-ghost use Rattle.octets.specs.Part.{Part};
+ghost use Rattle.octets.specs.Part.{within, Part};
+
+// Where a part of a slice lies, and its length.
+#[derive(Clone, Copy, Debug, Default, PartialEq, Eq)]
+pub struct Span {
+    pub at: usize,
+    pub len: usize,
+}
 
 // One byte.
+#[tactic(auto, unfolding(crate::specs::Overwrite::overwrite))]
 pub fn put_u8(out: &mut [u8], at: usize, x: u8) -> usize
     requires { at + 1 ≤ length out.old }
     ensures { Wrote out.old at 1 (x ∷ []) out.new result }
@@ -17,6 +25,7 @@ pub fn put_u8(out: &mut [u8], at: usize, x: u8) -> usize
 }
 
 // The low N bytes of a number.
+#[tactic(auto, using(crate::proofs::Copied::copied, crate::proofs::Numbers::putting))]
 pub fn put<const N: usize>(out: &mut [u8], at: usize, x: u64) -> usize
     requires width { N ≤ 8 }
     requires room { at + N ≤ length out.old }
@@ -28,6 +37,7 @@ pub fn put<const N: usize>(out: &mut [u8], at: usize, x: u64) -> usize
 }
 
 // All of `src`.
+#[tactic(auto, using(crate::proofs::Copied::copied, std::proofs::Common::take_all))]
 pub fn copy_in(out: &mut [u8], at: usize, src: &[u8]) -> usize
     requires { at + length src.now ≤ length out.old }
     ensures { Wrote out.old at (length src.now) src.now out.new result }
@@ -37,17 +47,26 @@ pub fn copy_in(out: &mut [u8], at: usize, src: &[u8]) -> usize
     end
 }
 
-// As many zeros as asked for.
+// One byte, as often as asked for.
+#[tactic(auto, using(crate::proofs::Copied::copied))]
+pub fn put_repeated(out: &mut [u8], at: usize, n: usize, x: u8) -> usize
+    requires { at + n ≤ length out.old }
+    ensures { Wrote out.old at n (replicate n x) out.new result }
+{
+    let end = at + n;
+    out[at..end].fill(x);
+    end
+}
+
 pub fn put_zeros(out: &mut [u8], at: usize, n: usize) -> usize
     requires { at + n ≤ length out.old }
     ensures { Wrote out.old at n (replicate n 0) out.new result }
 {
-    let end = at + n;
-    out[at..end].fill(0);
-    end
+    put_repeated(out, at, n, 0)
 }
 
 // The number that N bytes stand for.
+#[tactic(auto, using(crate::proofs::Numbers::getting))]
 pub fn get<const N: usize>(s: &[u8], at: usize) -> u64
     requires width { N ≤ 8 }
     requires room { at + N ≤ length s.now }
@@ -59,13 +78,33 @@ pub fn get<const N: usize>(s: &[u8], at: usize) -> u64
     u64::from_be_bytes(bytes)
 }
 
-// The part of `s` of `len` bytes from `at` on, where it lies; the empty part at the start where that passes the end.
-pub fn part(s: &[u8], at: usize, len: usize) -> &[u8]
-    ensures { Part s.entry at len result }
-{
-    if at <= s.len() && len <= s.len() - at {
-        &s[at..at + len]
-    } else {
-        &s[0..0]
+impl Span {
+    // Whether the part ends within n bytes.
+    pub fn is_within(self, n: usize) -> bool
+        ensures { result ≡ within self.at self.len n }
+    {
+        self.at <= n && self.len <= n - self.at
     }
+
+    // The part of len bytes that begins where this one ends.
+    pub fn next(self, len: usize) -> Span
+        requires { self.at + self.len < 2 ^ 64 }
+        ensures { result ≡ record { at = self.at + self.len; len = len } }
+    {
+        Span {
+            at: self.at + self.len,
+            len,
+        }
+    }
+}
+
+// The bytes of the part, where they lie; the empty part at the start where it passes the end.
+#[tactic(auto, unfolding(crate::specs::Part::part_of, crate::specs::Part::part_at))]
+pub fn part(s: &[u8], span: Span) -> &[u8]
+    ensures { Part s.entry span.at span.len result }
+{
+    if !span.is_within(s.len()) {
+        return &s[..0];
+    }
+    &s[span.at..span.at + span.len]
 }

@@ -1,11 +1,11 @@
 -- The chunks of a payload by number (docs/ABI.md, `bustardcase_outline`): a chunk's number is its place in the order in which the header gives
 -- the sizes. ISO/IEC 23008-12 Amd 2, Annex O.3.2; document 01, 'The record and its order of bits'.
-use Rattle.std.specs.Prelude.{◌≡◌, ℕ, ◌+◌, ◌-◌, Bool, true, List, [], ◌∷◌, map, length, slice_index, slice_index_or, refl, Option, None}
+use Rattle.std.specs.Prelude.{◌≡◌, ℕ, ◌+◌, ◌-◌, true, List, [], ◌∷◌, map, length, slice_index, slice_index_or, refl, Option, None}
 use Rattle.mini.specs.Chunks.{given_sizes, stored_sizes, chunk_if}
 use Rattle.mini.specs.Same.{chunk_len}
 use Rattle.mini.specs.declared.ChunkSizes.{ChunkSizes}
 use Rattle.mini.specs.declared.MinimizedImage.{MinimizedImage}
-use Rattle.mini.specs.declared.Span.{Span}
+use Rattle.octets.specs.declared.Span.{Span}
 
 -- ICC, tone map ICC, gain-map metadata, data and configuration, main configuration and data, alpha data and configuration, Exif, XMP
 unfoldable pub given_order : List ℕ
@@ -18,21 +18,18 @@ stored_order = 6 ∷ 9 ∷ 5 ∷ 1 ∷ 2 ∷ 3 ∷ 8 ∷ 4 ∷ 7 ∷ 10 ∷ 11 �
 unfoldable pub size_of : ChunkSizes → ℕ → ℕ
 size_of z n = slice_index (given_sizes z) (n - 1)
 
--- a span of the record, present where its owner is
-abbrev pub span_chunk : Bool → Span → Option Span
-span_chunk on x = chunk_if on x.at x.len
-
+-- a span of the record is present where its owner is
 unfoldable pub given_chunks : MinimizedImage → List (Option Span)
 given_chunks i =
     let g = i.gain_map in
     i.icc
     ∷ g.tmap_icc
-    ∷ span_chunk i.has_gain_map g.metadata
-    ∷ span_chunk i.has_gain_map g.«data»
+    ∷ chunk_if i.has_gain_map g.metadata
+    ∷ chunk_if i.has_gain_map g.«data»
     ∷ g.codec_config
-    ∷ span_chunk true i.main_codec_config
-    ∷ span_chunk true i.main_data
-    ∷ span_chunk i.alpha i.alpha_data
+    ∷ chunk_if true i.main_codec_config
+    ∷ chunk_if true i.main_data
+    ∷ chunk_if i.alpha i.alpha_data
     ∷ i.alpha_codec_config
     ∷ i.exif
     ∷ i.xmp

@@ -8,7 +8,6 @@ use Rattle.bits.specs.Run.{state, Run}
 use Rattle.bits.specs.declared.Bits.{Bits}
 use Rattle.mini.specs.Read.{past_trailing_bits}
 use Rattle.mini.specs.Syntax.{flags, dimensions, chroma, sample_format, explicit_cicp, explicit_codec_types, main_format, gain_map_header, hdr_boxes, chunk_sizes, header}
-use Rattle.outline.specs.declared.ends.HeaderEnds.{HeaderEnds}
 
 infixr 4 ◌next◌
 -- reading part by part: where each part ends, and the state after the last
@@ -50,24 +49,8 @@ part_ends s =
 abbrev pub place : Bits → ℕ
 place b = (state b).at
 
-abbrev pub ends : HeaderEnds → List Bits
-ends e =
-    e.flags
-    ∷ e.dimensions
-    ∷ e.chroma
-    ∷ e.format
-    ∷ e.premultiplied
-    ∷ e.cicp
-    ∷ e.codec_types
-    ∷ e.gain_map
-    ∷ e.hdr_boxes
-    ∷ e.tmap_hdr
-    ∷ e.sizes
-    ∷ e.trailing
-    ∷ []
-
-unfoldable pub places : HeaderEnds → List ℕ
-places e = map place (ends e)
+unfoldable pub places : List Bits → List ℕ
+places ends = map place ends
 
 -- ---- how a function that reads part by part is shown to pass through these places
 pub part_read : {A : Type 0} {s : List ℕ} {b c : State} {x : A} (p : Format A) (k : A → Parts) → Run p s b x c

@@ -9,7 +9,7 @@ use Rattle.layout.specs.PartBytes.{chunk_bytes, length_chunk}
 use Rattle.mini.specs.Cut.{joined, joined-append}
 use Rattle.mini.specs.Read.{read_mini}
 use Rattle.mini.specs.declared.MinimizedImage.{MinimizedImage}
-use Rattle.mini.specs.declared.Span.{Span}
+use Rattle.octets.specs.declared.Span.{Span}
 use Rattle.outline.specs.Chunks.{given_order, stored_order, chunk_of, ignored}
 use Rattle.outline.specs.Ends.{◌next◌, header_parts, part_ends}
 

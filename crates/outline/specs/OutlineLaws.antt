@@ -7,7 +7,7 @@ use Rattle.std.proofs.lemmas.Bool.{eqb-false}
 use Rattle.bits.specs.Bit.{bits_of, bits_of-append, length-bits_of, length-bits_n}
 use Rattle.bits.specs.State.{State, clean}
 use Rattle.bits.specs.Format.{Format, ◌>>=◌, view, field_if, test_passed}
-use Rattle.mini.specs.Chunks.{given_sizes, stored_sizes, stored_places, end_within, chunk_if, span_if}
+use Rattle.mini.specs.Chunks.{given_sizes, stored_sizes, stored_spans, end_within, chunk_if, span_if}
 use Rattle.mini.specs.Cut.{sum, within_of, of_within}
 use Rattle.mini.specs.HeaderLength.{header_end}
 use Rattle.mini.specs.Image.{image_of}
@@ -20,8 +20,8 @@ use Rattle.mini.specs.Write.{header_with}
 use Rattle.mini.specs.declared.ChunkSizes.{ChunkSizes}
 use Rattle.mini.specs.declared.Header.{Header}
 use Rattle.mini.specs.declared.MinimizedImage.{MinimizedImage}
-use Rattle.mini.specs.declared.Span.{Span}
-use Rattle.outline.specs.Chunks.{given_order, stored_order, span_chunk, given_chunks, chunk_of, chunks_end, ignored}
+use Rattle.octets.specs.declared.Span.{Span}
+use Rattle.outline.specs.Chunks.{given_order, stored_order, given_chunks, chunk_of, chunks_end, ignored}
 use Rattle.outline.specs.Ends.{Parts, ◌next◌, done, header_parts, part_ends, whole_header}
 
 -- ---- the ends of the parts
@@ -53,7 +53,7 @@ at_chunks s z =
 
 -- and the twelfth where the main configuration begins
 pub main_begins : (s : List ℕ) → (read_mini s).refusal ≡ 0 → slice_index (part_ends s) 11 ≡ 8 * (read_mini s).image.main_codec_config.at
-unfolding part_ends header_parts ◌next◌ image_of stored_places
+unfolding part_ends header_parts ◌next◌ image_of stored_spans
 main_begins s z =
     let a = at_chunks s z in
     let p = (past_trailing_bits s (header.parse s (clean 0)).1).at in
@@ -106,44 +106,45 @@ ends_rise s z =
 
 -- ---- the chunks of a header's record
 -- a span whose owner is absent has size 0
-span_len : (t : Bool) (w n : ℕ) → (field_if t w).Good n → (p : ℕ) → chunk_len (span_chunk t (span_if t p n)) ≡ n
-span_len true w n g p = refl
-span_len false w n g p = sym g
+span_len : (t : Bool) (w : ℕ) (x : Span) → (field_if t w).Good x.len → chunk_len (chunk_if t (span_if t x)) ≡ x.len
+span_len true w x g = refl
+span_len false w x g = sym g
 
-alpha_len : (t : Bool) (w n : ℕ) → (field_if t w).Good n → (p : ℕ) → chunk_len (chunk_if t p n) ≡ n
-alpha_len true w n g p = refl
-alpha_len false w n g p = sym g
+alpha_len : (t : Bool) (w : ℕ) (x : Span) → (field_if t w).Good x.len → chunk_len (chunk_if t x) ≡ x.len
+alpha_len true w x g = refl
+alpha_len false w x g = sym g
 
 -- each chunk has the size given for it
 record Sized (i : MinimizedImage) (z : ChunkSizes) : Type 0 where
   icc : chunk_len i.icc ≡ z.icc
   tmap_icc : chunk_len i.gain_map.tmap_icc ≡ z.tmap_icc
-  gain_map_metadata : chunk_len (span_chunk i.has_gain_map i.gain_map.metadata) ≡ z.gain_map_metadata
-  gain_map_data : chunk_len (span_chunk i.has_gain_map i.gain_map.«data») ≡ z.gain_map_data
+  gain_map_metadata : chunk_len (chunk_if i.has_gain_map i.gain_map.metadata) ≡ z.gain_map_metadata
+  gain_map_data : chunk_len (chunk_if i.has_gain_map i.gain_map.«data») ≡ z.gain_map_data
   gain_map_config : chunk_len i.gain_map.codec_config ≡ z.gain_map_codec_config
-  main_config : chunk_len (span_chunk true i.main_codec_config) ≡ z.main_codec_config
-  main_data : chunk_len (span_chunk true i.main_data) ≡ z.main_data
-  alpha_data : chunk_len (span_chunk i.alpha i.alpha_data) ≡ z.alpha_data
+  main_config : chunk_len (chunk_if true i.main_codec_config) ≡ z.main_codec_config
+  main_data : chunk_len (chunk_if true i.main_data) ≡ z.main_data
+  alpha_data : chunk_len (chunk_if i.alpha i.alpha_data) ≡ z.alpha_data
   alpha_config : chunk_len i.alpha_codec_config ≡ z.alpha_codec_config
   exif : chunk_len i.exif ≡ z.exif
   xmp : chunk_len i.xmp ≡ z.xmp
 
 sized : (h : Header) (at : ℕ) → header.Good h → Sized (image_of h at) h.sizes
-unfolding header_with image_of stored_places chunk_sizes ◌>>=◌ view
+unfolding header_with image_of stored_spans chunk_sizes ◌>>=◌ view
 sized h at good =
     let g = (parts h good).sizes_ok.0 in
     let z = h.sizes in
+    let p = stored_spans z at in
     let has = h.gain_map.present in
     let e : (header_with (image_of h at) (choices_of h)).sizes ≡ z = ap (λ (x : Header). x.sizes) (header_again h at good) in
     record {
       icc = ap (λ (x : ChunkSizes). x.icc) e;
       tmap_icc = ap (λ (x : ChunkSizes). x.tmap_icc) e;
-      gain_map_metadata = span_len has _ z.gain_map_metadata g.1.1.1.1.1.0 _;
-      gain_map_data = span_len has _ z.gain_map_data g.1.1.1.1.1.1.0 _;
+      gain_map_metadata = span_len has _ p.gain_map_metadata g.1.1.1.1.1.0;
+      gain_map_data = span_len has _ p.gain_map_data g.1.1.1.1.1.1.0;
       gain_map_config = ap (λ (x : ChunkSizes). x.gain_map_codec_config) e;
       main_config = refl;
       main_data = refl;
-      alpha_data = alpha_len h.flags.alpha _ z.alpha_data g.1.1.1.1.1.1.1.1.1.1.0 _;
+      alpha_data = alpha_len h.flags.alpha _ p.alpha_data g.1.1.1.1.1.1.1.1.1.1.0;
       alpha_config = ap (λ (x : ChunkSizes). x.alpha_codec_config) e;
       exif = ap (λ (x : ChunkSizes). x.exif) e;
       xmp = ap (λ (x : ChunkSizes). x.xmp) e;
@@ -164,38 +165,39 @@ adjoin_none : (at : ℕ) → Adjoin at []
 unfolding Adjoin
 adjoin_none at = tt
 
-adjoin_next : (t : Bool) (at n : ℕ) (l : List (Option Span)) → chunk_len (chunk_if t at n) ≡ n → Adjoin (at + n) l → Adjoin at (chunk_if t at n ∷ l)
+adjoin_next : (t : Bool) (x : Span) (l : List (Option Span)) → chunk_len (chunk_if t x) ≡ x.len → Adjoin (x.at + x.len) l → Adjoin x.at (chunk_if t x ∷ l)
 unfolding Adjoin
-adjoin_next true at n l e a = (refl, a)
-adjoin_next false at n l e a = subst (λ (k : ℕ). Adjoin k l) (omega (arith, e)) a
+adjoin_next true x l e a = (refl, a)
+adjoin_next false x l e a = subst (λ (k : ℕ). Adjoin k l) (omega (arith, e)) a
 
-adjoin_span : (t : Bool) (at n : ℕ) (l : List (Option Span)) → chunk_len (span_chunk t (span_if t at n)) ≡ n → Adjoin (at + n) l
-    → Adjoin at (span_chunk t (span_if t at n) ∷ l)
+adjoin_span : (t : Bool) (x : Span) (l : List (Option Span)) → chunk_len (chunk_if t (span_if t x)) ≡ x.len → Adjoin (x.at + x.len) l
+    → Adjoin x.at (chunk_if t (span_if t x) ∷ l)
 unfolding Adjoin
-adjoin_span true at n l e a = (refl, a)
-adjoin_span false at n l e a = subst (λ (k : ℕ). Adjoin k l) (omega (arith, e)) a
+adjoin_span true x l e a = (refl, a)
+adjoin_span false x l e a = subst (λ (k : ℕ). Adjoin k l) (omega (arith, e)) a
 
 stored_chunks : (h : Header) (at : ℕ) → header.Good h → Adjoin at (map (chunk_of (image_of h at)) stored_order)
-unfolding stored_order chunk_of given_chunks image_of stored_places
+unfolding stored_order chunk_of given_chunks image_of stored_spans
 stored_chunks h at good =
     let e = sized h at good in
     let f = h.flags in
     let has = h.gain_map.present in
     let z = h.sizes in
-    adjoin_next true _ z.main_codec_config _ refl
-    (adjoin_next (nat_lt 0 z.alpha_codec_config) _ z.alpha_codec_config _ e.alpha_config
-    (adjoin_next (nat_lt 0 z.gain_map_codec_config) _ z.gain_map_codec_config _ e.gain_map_config
-    (adjoin_next f.icc _ z.icc _ e.icc
-    (adjoin_next h.gain_map.tmap_icc _ z.tmap_icc _ e.tmap_icc
-    (adjoin_span has _ z.gain_map_metadata _ e.gain_map_metadata
-    (adjoin_next f.alpha _ z.alpha_data _ e.alpha_data
-    (adjoin_span has _ z.gain_map_data _ e.gain_map_data
-    (adjoin_next true _ z.main_data _ refl
-    (adjoin_next f.exif _ z.exif _ e.exif
-    (adjoin_next f.xmp _ z.xmp [] e.xmp (adjoin_none _)))))))))))
+    let p = stored_spans z at in
+    adjoin_next true p.main_codec_config _ refl
+    (adjoin_next (nat_lt 0 z.alpha_codec_config) p.alpha_codec_config _ e.alpha_config
+    (adjoin_next (nat_lt 0 z.gain_map_codec_config) p.gain_map_codec_config _ e.gain_map_config
+    (adjoin_next f.icc p.icc _ e.icc
+    (adjoin_next h.gain_map.tmap_icc p.tmap_icc _ e.tmap_icc
+    (adjoin_span has p.gain_map_metadata _ e.gain_map_metadata
+    (adjoin_next f.alpha p.alpha_data _ e.alpha_data
+    (adjoin_span has p.gain_map_data _ e.gain_map_data
+    (adjoin_next true p.main_data _ refl
+    (adjoin_next f.exif p.exif _ e.exif
+    (adjoin_next f.xmp p.xmp [] e.xmp (adjoin_none _)))))))))))
 
 chunks_end_lem : (h : Header) (at : ℕ) → header.Good h → chunks_end (image_of h at) ≡ at + sum (stored_sizes h.sizes)
-unfolding chunks_end stored_sizes image_of stored_places
+unfolding chunks_end stored_sizes image_of stored_spans
 chunks_end_lem h at good = let e = sized h at good in omega (arith, e.exif, e.xmp)
 
 -- ---- the chunks of an accepted payload's record
@@ -214,7 +216,7 @@ sizes_as_given s z =
 -- and lie in the stored order, from the main configuration on
 pub lie_as_stored : (s : List ℕ) → (read_mini s).refusal ≡ 0
     → Adjoin (read_mini s).image.main_codec_config.at (map (chunk_of (read_mini s).image) stored_order)
-unfolding image_of stored_places
+unfolding image_of stored_spans
 lie_as_stored s z =
     let h = found s in
     subst (λ (i : MinimizedImage). Adjoin i.main_codec_config.at (map (chunk_of i) stored_order)) (sym (read_image s z))

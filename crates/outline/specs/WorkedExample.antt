@@ -5,7 +5,7 @@
 use Rattle.std.specs.Prelude.{◌≡◌, ℕ, List, [], ◌∷◌, map, refl, Some, None}
 use Rattle.bits.specs.State.{ahead, part, bytes_of, bytes_at, read_bits, read_bytes}
 use Rattle.bits.specs.Format.{◌>>=◌, view}
-use Rattle.mini.specs.Chunks.{stored_sizes, stored_places, end_within}
+use Rattle.mini.specs.Chunks.{stored_sizes, stored_spans, end_within}
 use Rattle.mini.specs.Image.{image_of}
 use Rattle.mini.specs.Read.{bits_to_boundary, past_trailing_bits, test_chunks, read_chunks, read_mini}
 use Rattle.mini.specs.Syntax.{flags, dimensions, chroma, float_format, integer_format, sample_format, explicit_cicp, explicit_codec_types, main_format, tmap_cicp, gain_map_dimension, gain_map_format, gain_map_header, cclv, cclv_for, hdr_boxes, chunk_sizes, header, trailing_bits}
@@ -23,9 +23,9 @@ example_ends = refl
 
 pub example_chunks : map (chunk_of (read_mini payload).image) stored_order
     ≡ Some (record { at = 16; len = 0 }) ∷ None ∷ Some (record { at = 16; len = 1 }) ∷ None ∷ None ∷ Some (record { at = 17; len = 3 }) ∷ None ∷ Some (record { at = 20; len = 5 }) ∷ Some (record { at = 25; len = 1 }) ∷ None ∷ None ∷ []
-unfolding stored_order given_chunks chunk_of ahead part bytes_of bytes_at read_bits read_bytes ◌>>=◌ view flags dimensions chroma float_format integer_format sample_format explicit_cicp explicit_codec_types main_format tmap_cicp gain_map_dimension gain_map_format gain_map_header cclv cclv_for hdr_boxes chunk_sizes header trailing_bits stored_sizes stored_places end_within image_of bits_to_boundary past_trailing_bits test_chunks read_chunks read_mini
+unfolding stored_order given_chunks chunk_of ahead part bytes_of bytes_at read_bits read_bytes ◌>>=◌ view flags dimensions chroma float_format integer_format sample_format explicit_cicp explicit_codec_types main_format tmap_cicp gain_map_dimension gain_map_format gain_map_header cclv cclv_for hdr_boxes chunk_sizes header trailing_bits stored_sizes stored_spans end_within image_of bits_to_boundary past_trailing_bits test_chunks read_chunks read_mini
 example_chunks = refl
 
 pub example_ignored : ignored (read_mini payload).image payload ≡ 2
-unfolding ignored chunks_end ahead part bytes_of bytes_at read_bits read_bytes ◌>>=◌ view flags dimensions chroma float_format integer_format sample_format explicit_cicp explicit_codec_types main_format tmap_cicp gain_map_dimension gain_map_format gain_map_header cclv cclv_for hdr_boxes chunk_sizes header trailing_bits stored_sizes stored_places end_within image_of bits_to_boundary past_trailing_bits test_chunks read_chunks read_mini
+unfolding ignored chunks_end ahead part bytes_of bytes_at read_bits read_bytes ◌>>=◌ view flags dimensions chroma float_format integer_format sample_format explicit_cicp explicit_codec_types main_format tmap_cicp gain_map_dimension gain_map_format gain_map_header cclv cclv_for hdr_boxes chunk_sizes header trailing_bits stored_sizes stored_spans end_within image_of bits_to_boundary past_trailing_bits test_chunks read_chunks read_mini
 example_ignored = refl

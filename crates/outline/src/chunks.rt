@@ -1,17 +1,18 @@
 // The chunks in the order of their sizes and in the order in which they lie, and how many bytes come after them.
 ghost use Rattle.std.specs.Prelude.{◌≡◌, ◌+◌, ◌-◌, ◌*◌, ◌≤◌, length, All};
 ghost use Rattle.octets.specs.Overwrite.{Wrote};
-ghost use Rattle.outline.specs.Chunks.{given_order, stored_order, given_chunks, chunks_end};
+ghost use Rattle.outline.specs.Chunks.{given_chunks, chunks_end};
 ghost use Rattle.outline.specs.OutlineBytes.{entry, entries};
 
 use layout::part::put_chunk;
 use mini::{Chunk, MinimizedImage, chunk_len};
 use octets::put_u8;
-use reader::image::chunk_if;
 
-const GIVEN_ORDER: [u8; 11] = [1, 2, 3, 4, 5, 6, 7, 8, 9, 10, 11];
+// The chunks' numbers, those of docs/ABI.md, in the order of their sizes.
+pub const GIVEN_ORDER: [u8; 11] = [1, 2, 3, 4, 5, 6, 7, 8, 9, 10, 11];
 
-const STORED_ORDER: [u8; 11] = [6, 9, 5, 1, 2, 3, 8, 4, 7, 10, 11];
+// And in the order in which they lie.
+pub const STORED_ORDER: [u8; 11] = [6, 9, 5, 1, 2, 3, 8, 4, 7, 10, 11];
 
 // The chunks by number, the first that of number 1. A span of the record is present where its owner is.
 #[tactic(auto, unfolding(crate::specs::Chunks::given_chunks))]
@@ -22,12 +23,12 @@ fn given_chunks(i: MinimizedImage) -> [Chunk; 11]
     [
         i.icc,
         g.tmap_icc,
-        chunk_if(i.has_gain_map, g.metadata.at, g.metadata.len),
-        chunk_if(i.has_gain_map, g.data.at, g.data.len),
+        i.has_gain_map.then_some(g.metadata),
+        i.has_gain_map.then_some(g.data),
         g.codec_config,
         Some(i.main_codec_config),
         Some(i.main_data),
-        chunk_if(i.alpha, i.alpha_data.at, i.alpha_data.len),
+        i.alpha.then_some(i.alpha_data),
         i.alpha_codec_config,
         i.exif,
         i.xmp,
@@ -43,7 +44,8 @@ fn put_entry(out: &mut [u8], at: usize, number: u8, c: Chunk) -> usize
     put_chunk(out, at, c)
 }
 
-fn put_entries(out: &mut [u8], at: usize, i: MinimizedImage, order: &[u8]) -> usize
+// The chunks in an order of their numbers.
+pub fn put_entries(out: &mut [u8], at: usize, i: MinimizedImage, order: &[u8]) -> usize
     requires room { at + 18 * length order.now ≤ length out.old }
     requires numbers { All (λ n. (1 ≤ n) × (n ≤ 11)) order.now }
     ensures { Wrote out.old at (18 * length order.now) (entries i order.now) out.new result }
@@ -54,24 +56,6 @@ fn put_entries(out: &mut [u8], at: usize, i: MinimizedImage, order: &[u8]) -> us
         at = put_entry(out, at, number, chunks[usize::from(number) - 1]);
     }
     at
-}
-
-// In the order of the sizes.
-#[tactic(auto, unfolding(crate::specs::Chunks::given_order))]
-pub fn put_given(out: &mut [u8], at: usize, i: MinimizedImage) -> usize
-    requires { at + 198 ≤ length out.old }
-    ensures { Wrote out.old at 198 (entries i given_order) out.new result }
-{
-    put_entries(out, at, i, &GIVEN_ORDER)
-}
-
-// In the order in which they lie.
-#[tactic(auto, unfolding(crate::specs::Chunks::stored_order))]
-pub fn put_stored(out: &mut [u8], at: usize, i: MinimizedImage) -> usize
-    requires { at + 198 ≤ length out.old }
-    ensures { Wrote out.old at 198 (entries i stored_order) out.new result }
-{
-    put_entries(out, at, i, &STORED_ORDER)
 }
 
 // How many of `total` bytes come after the last chunk.

@@ -16,23 +16,7 @@ use header_reader::sizes::{read_sizes, read_trailing_bits};
 use octets::put;
 
 // The state after each part.
-#[derive(Clone, Copy)]
-pub struct HeaderEnds {
-    pub flags: Bits,
-    pub dimensions: Bits,
-    pub chroma: Bits,
-    pub format: Bits,
-    pub premultiplied: Bits,
-    pub cicp: Bits,
-    pub codec_types: Bits,
-    pub gain_map: Bits,
-    pub hdr_boxes: Bits,
-    pub tmap_hdr: Bits,
-    pub sizes: Bits,
-    pub trailing: Bits,
-}
-
-pub fn read_ends(payload: &[u8]) -> HeaderEnds
+pub fn read_ends(payload: &[u8]) -> [Bits; 12]
     ensures { places result ≡ part_ends payload.now }
 {
     let (f, flags) = read_flags(Bits::new(), payload);
@@ -47,7 +31,7 @@ pub fn read_ends(payload: &[u8]) -> HeaderEnds
     let (_, tmap_hdr) = read_hdr_boxes_if(hdr_boxes, payload, g.present);
     let (_, sizes) = read_sizes(tmap_hdr, payload, f, g);
     let trailing = read_trailing_bits(sizes, payload);
-    HeaderEnds {
+    [
         flags,
         dimensions,
         chroma,
@@ -60,42 +44,24 @@ pub fn read_ends(payload: &[u8]) -> HeaderEnds
         tmap_hdr,
         sizes,
         trailing,
-    }
+    ]
 }
 
-// The place of a state in bits: its low eight bytes, so that no place is too far on.
+// The place of a state in bits, as eight bytes: of a number of more only the low eight, so that nothing is asked of the state.
 fn put_place(out: &mut [u8], at: usize, b: Bits) -> usize
     requires { at + 8 ≤ length out.old }
     ensures { Wrote out.old at 8 (be 8 (state b).at) out.new result }
 {
     let BitPos(byte, bit) = b.at;
-    put::<8>(
-        out,
-        at,
-        (byte as u64).wrapping_mul(8).wrapping_add(bit as u64),
-    )
+    put::<8>(out, at, byte.wrapping_mul(8).wrapping_add(bit) as u64)
 }
 
-pub fn put_ends(out: &mut [u8], at: usize, e: HeaderEnds) -> usize
+pub fn put_ends(out: &mut [u8], at: usize, ends: &[Bits; 12]) -> usize
     requires { at + 96 ≤ length out.old }
-    ensures { Wrote out.old at 96 (place_bytes (places e)) out.new result }
+    ensures { Wrote out.old at 96 (place_bytes (places ends.now)) out.new result }
 {
-    let ends = [
-        e.flags,
-        e.dimensions,
-        e.chroma,
-        e.format,
-        e.premultiplied,
-        e.cicp,
-        e.codec_types,
-        e.gain_map,
-        e.hdr_boxes,
-        e.tmap_hdr,
-        e.sizes,
-        e.trailing,
-    ];
     let mut at = at;
-    for b in ends {
+    for &b in ends {
         at = put_place(out, at, b);
     }
     at

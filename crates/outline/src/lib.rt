@@ -11,13 +11,16 @@ pub mod ends;
 use mini::MinimizedImage;
 use octets::put;
 
+pub const OUTLINE_LEN: usize = 500;
+
 // The outline of a payload whose record is `i`.
+#[tactic(auto, unfolding(crate::specs::Chunks::given_order, crate::specs::Chunks::stored_order))]
 pub fn put_outline(out: &mut [u8], at: usize, payload: &[u8], i: MinimizedImage) -> usize
-    requires { at + 500 ≤ length out.old }
-    ensures { Wrote out.old at 500 (outline_of payload.now i) out.new result }
+    requires { at + OUTLINE_LEN ≤ length out.old }
+    ensures { Wrote out.old at OUTLINE_LEN (outline_of payload.now i) out.new result }
 {
-    let at = ends::put_ends(out, at, ends::read_ends(payload));
-    let at = chunks::put_given(out, at, i);
-    let at = chunks::put_stored(out, at, i);
+    let at = ends::put_ends(out, at, &ends::read_ends(payload));
+    let at = chunks::put_entries(out, at, i, &chunks::GIVEN_ORDER);
+    let at = chunks::put_entries(out, at, i, &chunks::STORED_ORDER);
     put::<8>(out, at, chunks::ignored(payload.len(), i) as u64)
 }

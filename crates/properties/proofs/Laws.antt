@@ -1,13 +1,10 @@
 -- Laws that several proofs cite.
-use Rattle.std.specs.Prelude.{◌≡◌, refl, List, [], ◌∷◌, ℕ, zero, suc, ◌<◌, length, get_or}
-use Rattle.std.proofs.Common.{append-nil, arith, length-append}
+use Rattle.std.proofs.Common.{length-append, length-take-le}
+use Rattle.std.proofs.lemmas.List.{length-map}
 use Rattle.octets.specs.OverwriteLaws.{overwrite_cons, overwrite-append}
 
 -- the writes of a list of runs
-pub ruleset list_writes = (overwrite_cons, overwrite-append, length-append, append-nil)
+pub ruleset list_writes = (overwrite_cons, overwrite-append, length-append, length-map)
 
--- what a list has at an index within it does not depend on the default
-pub get_d_any : {A : Type 0} (l : List A) (i : ℕ) (d e : A) → i < length l → get_or l i d ≡ get_or l i e
-get_d_any [] i d e h = absurd (omega arith)
-get_d_any (x ∷ l) zero d e h = refl
-get_d_any (x ∷ l) (suc i) d e h = get_d_any l i d e (omega arith)
+-- the first items of a list
+pub ruleset taken = (length-take-le)

@@ -12,6 +12,7 @@ use Rattle.mini.specs.Views.{bits_in}
 use Rattle.mini.specs.declared.MiniChroma.{MiniChroma}
 use Rattle.mini.specs.declared.SampleFormat.{SampleFormat}
 use Rattle.mini.specs.declared.SampleFormat.TheVariants.{Integer, Float}
+use Rattle.properties.specs.declared.Channel as code
 
 -- channel_idc, subsampling_type and subsampling_location
 pub record Channel : Type 0 where
@@ -21,6 +22,10 @@ pub record Channel : Type 0 where
 
 abbrev pub channel : ℕ → ℕ → ℕ → Channel
 channel idc subsampled sited = record { idc = idc; subsampled = subsampled; sited = sited }
+
+-- of the code's channel, the numbers
+abbrev pub told : code.Channel → Channel
+told c = channel c.idc c.subsampling_type c.subsampling_location
 
 -- component_format: 0 unsigned integers, 1 floating point
 abbrev pub component_format : SampleFormat → ℕ

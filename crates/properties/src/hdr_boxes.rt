@@ -20,7 +20,7 @@ const REVE: FourCc = 0x72657665;
 const NDWT: FourCc = 0x6E647774;
 
 // A box with its body. A cclv's first byte says how many of the bytes are its own.
-#[derive(Clone, Copy)]
+#[derive(Clone, Copy, Debug, PartialEq, Eq)]
 pub enum HdrBox {
     Clli([u8; 4]),
     Mdcv([u8; 24]),
@@ -30,8 +30,9 @@ pub enum HdrBox {
     Ndwt([u8; 4]),
 }
 
-fn put_cclv(out: &mut [u8], at: usize, held: &[u8]) -> usize
-    requires { (length held.now ≡ 37) × (at + cclv_len held.now ≤ length out.old) }
+#[tactic(auto, using(crate::proofs::Laws::taken), unfolding(crate::specs::HdrBoxes::cclv))]
+fn put_cclv(out: &mut [u8], at: usize, held: &[u8; 37]) -> usize
+    requires { at + cclv_len held.now ≤ length out.old }
     ensures { Wrote out.old at (cclv_len held.now) (cclv held.now) out.new result }
 {
     let len = cclv_more(held[0]) + 1;
@@ -41,17 +42,17 @@ fn put_cclv(out: &mut [u8], at: usize, held: &[u8]) -> usize
 impl HdrBox {
     ghost use Rattle.properties.specs.HdrBoxes.{hdr_box, hdr_box_len};
 
-    // How many bytes `put` writes.
+    // How many bytes `put` writes: a box's header takes eight, that of a full box twelve.
     pub fn len(self) -> usize
         ensures { (result ≡ hdr_box_len self) × (result ≤ 45) }
     {
         match self {
-            HdrBox::Clli(_) => 12,
-            HdrBox::Mdcv(_) => 32,
+            HdrBox::Clli(body) => 8 + body.len(),
+            HdrBox::Mdcv(body) => 8 + body.len(),
             HdrBox::Cclv(held) => 9 + cclv_more(held[0]),
-            HdrBox::Amve(_) => 16,
-            HdrBox::Reve(_) => 32,
-            HdrBox::Ndwt(_) => 16,
+            HdrBox::Amve(body) => 8 + body.len(),
+            HdrBox::Reve(body) => 12 + body.len(),
+            HdrBox::Ndwt(body) => 12 + body.len(),
         }
     }
 

@@ -45,5 +45,5 @@ pub fn turns_of(orientation: u8) -> Turns
     requires { (1 ≤ orientation) × (orientation ≤ 8) }
     ensures { result ≡ turns_of orientation }
 {
-    TURNS[(orientation - 1) as usize]
+    TURNS[usize::from(orientation - 1)]
 }

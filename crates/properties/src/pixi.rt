@@ -1,13 +1,28 @@
 // Bits and siting of the samples, channel by channel.
-ghost use Rattle.std.specs.Prelude.{◌≡◌, [], ◌∷◌, ◌+◌, ◌≤◌, length, replicate};
+ghost use Rattle.std.specs.Prelude.{◌≡◌, ◌*◌, ◌+◌, ◌≤◌, length, map};
 ghost use Rattle.octets.specs.Overwrite.{Wrote};
-ghost use Rattle.properties.specs.Pixi.{channel, chroma_channel, component_format, subsampling_type, subsampling_location, channels_of, alpha_channels, channel_bytes, pixi_body, pixi, pixi_len};
+ghost use Rattle.mini.specs.Cut.{joined};
+ghost use Rattle.properties.specs.Pixi.{told, chroma_channel, component_format, subsampling_type, subsampling_location, channels_of, alpha_channels, channel_bytes, pixi_body, pixi, pixi_len};
 
-use boxes::{FourCc, put_box_header, put_full_box_header};
+use crate::Channel;
+use boxes::{FourCc, put_boxed, put_full_box_header};
 use mini::{MiniChroma, SampleFormat};
-use octets::put_u8;
+use octets::{put_repeated, put_u8};
 
 const PIXI: FourCc = 0x70697869;
+
+// The channel numbers: 2 is the first component of a picture, 3 and 4 are the other two, 5 is alpha.
+const FIRST: Channel = Channel {
+    idc: 2,
+    subsampling_type: 0,
+    subsampling_location: 0,
+};
+
+const ALPHA: Channel = Channel {
+    idc: 5,
+    subsampling_type: 0,
+    subsampling_location: 0,
+};
 
 fn component_format(format: SampleFormat) -> u8
     ensures { (result ≡ component_format format) × (result ≤ 1) }
@@ -29,73 +44,81 @@ fn subsampling_type(subsampling: u8) -> u8
 fn subsampling_location(horizontally_centered: bool, vertically_centered: bool) -> u8
     ensures { (result ≡ subsampling_location horizontally_centered vertically_centered) × (result ≤ 3) }
 {
-    2 + u8::from(horizontally_centered) - 2 * u8::from(vertically_centered)
+    match (horizontally_centered, vertically_centered) {
+        (true, true) => 1,
+        (true, false) => 3,
+        (false, true) => 0,
+        (false, false) => 2,
+    }
+}
+
+fn chroma_channel(idc: u8, chroma: MiniChroma) -> Channel
+    requires { idc ≤ 7 }
+    ensures { told result ≡ chroma_channel idc chroma }
+{
+    Channel {
+        idc,
+        subsampling_type: subsampling_type(chroma.subsampling),
+        subsampling_location: subsampling_location(
+            chroma.horizontally_centered,
+            chroma.vertically_centered,
+        ),
+    }
 }
 
 #[tactic(auto, using(octets::specs::OverwriteLaws::writes), unfolding(crate::specs::Pixi::channel_bytes))]
-fn put_channel(out: &mut [u8], at: usize, format: u8, idc: u8, subsampled: u8, sited: u8) -> usize
-    requires { (at + 2 ≤ length out.old) × ((format ≤ 1) × ((idc ≤ 5) × ((subsampled ≤ 2) × (sited ≤ 3)))) }
-    ensures { Wrote out.old at 2 (channel_bytes format (channel idc subsampled sited)) out.new result }
+fn put_channel(out: &mut [u8], at: usize, format: SampleFormat, channel: Channel) -> usize
+    requires { at + 2 ≤ length out.old }
+    ensures { Wrote out.old at 2 (channel_bytes (component_format format) (told channel)) out.new result }
 {
-    let at = put_u8(out, at, idc * 32 + format * 4 + 2);
-    put_u8(out, at, subsampled * 16 + sited)
+    let at = put_u8(out, at, channel.idc * 32 + component_format(format) * 4 + 2);
+    put_u8(
+        out,
+        at,
+        channel.subsampling_type * 16 + channel.subsampling_location,
+    )
+}
+
+#[tactic(auto, using(octets::specs::OverwriteLaws::nothing))]
+fn put_channels(out: &mut [u8], at: usize, format: SampleFormat, channels: &[Channel]) -> usize
+    requires { at + 2 * length channels.now ≤ length out.old }
+    ensures { Wrote out.old at (2 * length channels.now) (joined (map (channel_bytes (component_format format)) (map told channels.now))) out.new result }
+{
+    let mut next = at;
+    for &channel in channels {
+        next = put_channel(out, next, format, channel);
+    }
+    next
 }
 
 #[tactic(auto, using(crate::proofs::Laws::list_writes), unfolding(crate::specs::Pixi::pixi_body))]
-fn one_channel_body(out: &mut [u8], format: SampleFormat, idc: u8) -> usize
-    requires { (8 ≤ length out.old) × (idc ≤ 5) }
-    ensures { Wrote out.old 0 8 (pixi_body format (channel idc 0 0 ∷ [])) out.new result }
+fn pixi_body(out: &mut [u8], format: SampleFormat, channels: &[Channel]) -> usize
+    requires { (5 + 3 * length channels.now ≤ length out.old) × (length channels.now ≤ 3) }
+    ensures { Wrote out.old 0 (5 + 3 * length channels.now) (pixi_body format (map told channels.now)) out.new result }
 {
-    let component = component_format(format);
+    let n = channels.len();
     let at = put_full_box_header(out, 0, 0, 1);
-    let at = put_u8(out, at, 1);
-    let at = put_u8(out, at, format.bits());
-    put_channel(out, at, component, idc, 0, 0)
+    let at = put_u8(out, at, n as u8);
+    let at = put_repeated(out, at, n, format.bits());
+    put_channels(out, at, format, channels)
 }
 
 #[tactic(auto, using(boxes::specs::Boxed::boxes), unfolding(crate::specs::Pixi::pixi))]
-fn put_one_channel(out: &mut [u8], at: usize, format: SampleFormat, idc: u8) -> usize
-    requires { (at + 16 ≤ length out.old) × (idc ≤ 5) }
-    ensures { Wrote out.old at 16 (pixi format (channel idc 0 0 ∷ [])) out.new result }
+fn put_pixi_box(out: &mut [u8], at: usize, format: SampleFormat, channels: &[Channel]) -> usize
+    requires { (at + (13 + 3 * length channels.now) ≤ length out.old) × (length channels.now ≤ 3) }
+    ensures { Wrote out.old at (13 + 3 * length channels.now) (pixi format (map told channels.now)) out.new result }
 {
-    let len = one_channel_body(&mut out[at + 8..], format, idc);
-    put_box_header(out, at, len, PIXI)
+    put_boxed(out, at, PIXI, |part| pixi_body(part, format, channels))
 }
 
-// The bits of three channels, which are alike.
-#[tactic(auto, using(octets::specs::OverwriteLaws::writes))]
-fn put_three_bits(out: &mut [u8], at: usize, bits: u8) -> usize
-    requires { at + 3 ≤ length out.old }
-    ensures { Wrote out.old at 3 (replicate 3 bits) out.new result }
-{
-    let at = put_u8(out, at, bits);
-    let at = put_u8(out, at, bits);
-    put_u8(out, at, bits)
-}
+// How many bytes `put_alpha_pixi` writes.
+pub const ALPHA_PIXI_LEN: usize = 16;
 
-#[tactic(auto, using(crate::proofs::Laws::list_writes), unfolding(crate::specs::Pixi::pixi_body))]
-fn three_channels_body(out: &mut [u8], format: SampleFormat, chroma: MiniChroma) -> usize
-    requires { 14 ≤ length out.old }
-    ensures { Wrote out.old 0 14 (pixi_body format (channel 2 0 0 ∷ chroma_channel 3 chroma ∷ chroma_channel 4 chroma ∷ [])) out.new result }
+// How many bytes `put_pixi` writes.
+pub fn pixi_len(chroma: MiniChroma) -> usize
+    ensures { (result ≡ pixi_len (channels_of chroma)) × (result ≤ 22) }
 {
-    let component = component_format(format);
-    let subsampled = subsampling_type(chroma.subsampling);
-    let sited = subsampling_location(chroma.horizontally_centered, chroma.vertically_centered);
-    let at = put_full_box_header(out, 0, 0, 1);
-    let at = put_u8(out, at, 3);
-    let at = put_three_bits(out, at, format.bits());
-    let at = put_channel(out, at, component, 2, 0, 0);
-    let at = put_channel(out, at, component, 3, subsampled, sited);
-    put_channel(out, at, component, 4, subsampled, sited)
-}
-
-#[tactic(auto, using(boxes::specs::Boxed::boxes), unfolding(crate::specs::Pixi::pixi))]
-fn put_three_channels(out: &mut [u8], at: usize, format: SampleFormat, chroma: MiniChroma) -> usize
-    requires { at + 22 ≤ length out.old }
-    ensures { Wrote out.old at 22 (pixi format (channel 2 0 0 ∷ chroma_channel 3 chroma ∷ chroma_channel 4 chroma ∷ [])) out.new result }
-{
-    let len = three_channels_body(&mut out[at + 8..], format, chroma);
-    put_box_header(out, at, len, PIXI)
+    if chroma.is_monochrome() { 16 } else { 22 }
 }
 
 // The channels of a colour or a grey picture.
@@ -103,10 +126,11 @@ pub fn put_pixi(out: &mut [u8], at: usize, format: SampleFormat, chroma: MiniChr
     requires { at + pixi_len (channels_of chroma) ≤ length out.old }
     ensures { Wrote out.old at (pixi_len (channels_of chroma)) (pixi format (channels_of chroma)) out.new result }
 {
-    if chroma.subsampling == 0 {
-        return put_one_channel(out, at, format, 2);
+    if chroma.is_monochrome() {
+        return put_pixi_box(out, at, format, &[FIRST]);
     }
-    put_three_channels(out, at, format, chroma)
+    let channels = [FIRST, chroma_channel(3, chroma), chroma_channel(4, chroma)];
+    put_pixi_box(out, at, format, &channels)
 }
 
 // The alpha channel alone.
@@ -114,5 +138,5 @@ pub fn put_alpha_pixi(out: &mut [u8], at: usize, format: SampleFormat) -> usize
     requires { at + pixi_len alpha_channels ≤ length out.old }
     ensures { Wrote out.old at (pixi_len alpha_channels) (pixi format alpha_channels) out.new result }
 {
-    put_one_channel(out, at, format, 5)
+    put_pixi_box(out, at, format, &[ALPHA])
 }

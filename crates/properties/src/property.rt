@@ -4,8 +4,8 @@ ghost use Rattle.octets.specs.Overwrite.{Wrote};
 ghost use Rattle.boxes.specs.Boxed.{boxed, full_box_header};
 ghost use Rattle.properties.specs.Property.{full_box, full_box_len, ispe_body, ispe, ispe_len, full_range_byte, nclx_body, nclx, nclx_len, prof_body, prof, prof_len, codec_config, codec_config_len, aux_c, aux_c_len, turn_box, turn_len};
 
-use boxes::{FourCc, put_box_header, put_full_box_header};
-use mini::Cicp;
+use boxes::{FourCc, put_boxed, put_four_cc, put_full_box_header};
+use mini::{Cicp, Size};
 use octets::{copy_in, put, put_u8};
 
 const ISPE: FourCc = 0x69737065;
@@ -22,14 +22,22 @@ pub const IROT: FourCc = 0x69726F74;
 
 pub const IMIR: FourCc = 0x696D6972;
 
+// How many bytes `put_ispe`, `put_nclx`, `put_auxc` and `put_turn` write.
+pub const ISPE_LEN: usize = 20;
+
+pub const NCLX_LEN: usize = 19;
+
+pub const AUXC_LEN: usize = 56;
+
+pub const TURN_LEN: usize = 9;
+
 // A box with a given body.
 #[tactic(auto, using(boxes::specs::Boxed::boxes))]
 pub fn put_box(out: &mut [u8], at: usize, box_type: FourCc, body: &[u8]) -> usize
     requires { (at + (8 + length body.now) ≤ length out.old) × (8 + length body.now < 4294967296) }
     ensures { Wrote out.old at (8 + length body.now) (boxed box_type body.now) out.new result }
 {
-    let len = copy_in(&mut out[at + 8..], 0, body);
-    put_box_header(out, at, len, box_type)
+    put_boxed(out, at, box_type, |part| copy_in(part, 0, body))
 }
 
 #[tactic(auto, using(octets::specs::OverwriteLaws::writes))]
@@ -47,28 +55,26 @@ pub fn put_full_box(out: &mut [u8], at: usize, box_type: FourCc, body: &[u8]) ->
     requires { (at + full_box_len (length body.now) ≤ length out.old) × (full_box_len (length body.now) < 4294967296) }
     ensures { Wrote out.old at (full_box_len (length body.now)) (full_box box_type body.now) out.new result }
 {
-    let len = full_body(&mut out[at + 8..], body);
-    put_box_header(out, at, len, box_type)
+    put_boxed(out, at, box_type, |part| full_body(part, body))
 }
 
 #[tactic(auto, using(octets::specs::OverwriteLaws::writes), unfolding(crate::specs::Property::ispe_body))]
-fn ispe_body(out: &mut [u8], width: u32, height: u32) -> usize
+fn ispe_body(out: &mut [u8], size: Size) -> usize
     requires { 12 ≤ length out.old }
-    ensures { Wrote out.old 0 12 (ispe_body width height) out.new result }
+    ensures { Wrote out.old 0 12 (ispe_body size.width size.height) out.new result }
 {
     let at = put_full_box_header(out, 0, 0, 0);
-    let at = put::<4>(out, at, width as u64);
-    put::<4>(out, at, height as u64)
+    let at = put::<4>(out, at, u64::from(size.width));
+    put::<4>(out, at, u64::from(size.height))
 }
 
 // The picture's size.
 #[tactic(auto, using(boxes::specs::Boxed::boxes), unfolding(crate::specs::Property::ispe))]
-pub fn put_ispe(out: &mut [u8], at: usize, width: u32, height: u32) -> usize
+pub fn put_ispe(out: &mut [u8], at: usize, size: Size) -> usize
     requires { at + ispe_len ≤ length out.old }
-    ensures { Wrote out.old at ispe_len (ispe width height) out.new result }
+    ensures { Wrote out.old at ispe_len (ispe size.width size.height) out.new result }
 {
-    let len = ispe_body(&mut out[at + 8..], width, height);
-    put_box_header(out, at, len, ISPE)
+    put_boxed(out, at, ISPE, |part| ispe_body(part, size))
 }
 
 fn full_range_byte(full: bool) -> u8
@@ -82,10 +88,10 @@ fn nclx_body(out: &mut [u8], cicp: Cicp, full: bool) -> usize
     requires { 11 ≤ length out.old }
     ensures { Wrote out.old 0 11 (nclx_body cicp.primaries cicp.transfer cicp.matrix full) out.new result }
 {
-    let at = put::<4>(out, 0, NCLX as u64);
-    let at = put::<2>(out, at, cicp.primaries as u64);
-    let at = put::<2>(out, at, cicp.transfer as u64);
-    let at = put::<2>(out, at, cicp.matrix as u64);
+    let at = put_four_cc(out, 0, NCLX);
+    let at = put::<2>(out, at, u64::from(cicp.primaries));
+    let at = put::<2>(out, at, u64::from(cicp.transfer));
+    let at = put::<2>(out, at, u64::from(cicp.matrix));
     put_u8(out, at, full_range_byte(full))
 }
 
@@ -95,8 +101,7 @@ pub fn put_nclx(out: &mut [u8], at: usize, cicp: Cicp, full: bool) -> usize
     requires { at + nclx_len ≤ length out.old }
     ensures { Wrote out.old at nclx_len (nclx cicp.primaries cicp.transfer cicp.matrix full) out.new result }
 {
-    let len = nclx_body(&mut out[at + 8..], cicp, full);
-    put_box_header(out, at, len, COLR)
+    put_boxed(out, at, COLR, |part| nclx_body(part, cicp, full))
 }
 
 #[tactic(auto, using(octets::specs::OverwriteLaws::writes), unfolding(crate::specs::Property::prof_body))]
@@ -104,7 +109,7 @@ fn prof_body(out: &mut [u8], icc: &[u8]) -> usize
     requires { 4 + length icc.now ≤ length out.old }
     ensures { Wrote out.old 0 (4 + length icc.now) (prof_body icc.now) out.new result }
 {
-    let at = put::<4>(out, 0, PROF as u64);
+    let at = put_four_cc(out, 0, PROF);
     copy_in(out, at, icc)
 }
 
@@ -114,8 +119,7 @@ pub fn put_prof(out: &mut [u8], at: usize, icc: &[u8]) -> usize
     requires { (at + prof_len (length icc.now) ≤ length out.old) × (prof_len (length icc.now) < 4294967296) }
     ensures { Wrote out.old at (prof_len (length icc.now)) (prof icc.now) out.new result }
 {
-    let len = prof_body(&mut out[at + 8..], icc);
-    put_box_header(out, at, len, COLR)
+    put_boxed(out, at, COLR, |part| prof_body(part, icc))
 }
 
 // A codec configuration, in a box of its type.
@@ -147,6 +151,5 @@ pub fn put_turn(out: &mut [u8], at: usize, box_type: FourCc, turn: u8) -> usize
     requires { at + turn_len ≤ length out.old }
     ensures { Wrote out.old at turn_len (turn_box box_type turn) out.new result }
 {
-    let len = put_u8(&mut out[at + 8..], 0, turn);
-    put_box_header(out, at, len, box_type)
+    put_boxed(out, at, box_type, |part| put_u8(part, 0, turn))
 }

@@ -4,7 +4,7 @@ use Rattle.std.proofs.Common.{◌∙◌, arith, le-leb}
 use Rattle.std.specs.Borrow.{Bor}
 use Rattle.octets.specs.Part.{Part, part_of}
 use Rattle.mini.specs.Same.{chunk_bytes, chunk_in}
-use Rattle.mini.specs.declared.Span.{Span}
+use Rattle.octets.specs.declared.Span.{Span}
 
 -- an absent chunk is the empty part at the payload's start
 abbrev pub ChunkPart : Bor (List ℕ) → Option Span → Bor (List ℕ) → Type 0

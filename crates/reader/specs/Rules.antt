@@ -1,20 +1,17 @@
 -- What reading answers once the header is read: the refusal met there, 9 where a chunk ends past the payload, or the record (mini's Read). Assumes
 -- nothing.
-use Rattle.std.specs.Prelude.{◌≡◌, refl, Bool, ◌||◌, ◌⊎◌, List, ℕ, ◌+◌, ◌/◌, ◌≤◌, T, eqb, length, Err}
+use Rattle.std.specs.Prelude.{◌≡◌, Bool, List, ℕ, ◌+◌, ◌/◌, eqb, length, Err}
 use Rattle.std.proofs.Math.Path.{sym, ap, ap₂}
-use Rattle.std.proofs.Common.{◌∙◌, subst, inl, inr, eq-eqb, ne_eqb, eqb-true, leb→le}
+use Rattle.std.proofs.Common.{◌∙◌, eq-eqb, ne_eqb}
 use Rattle.std.proofs.Math.Bool.{true, false}
 use Rattle.std.proofs.Math.Dec.{leb}
-use Rattle.bits.specs.State.{State, clean, is_reading_refusal, is_reading_state, refuse_if}
-use Rattle.bits.specs.Format.{and_split}
+use Rattle.bits.specs.State.{State, clean, refuse_if}
 use Rattle.mini.specs.Blank.{blank_image}
 use Rattle.mini.specs.Chunks.{stored_sizes, end_within}
 use Rattle.mini.specs.Cut.{sum, end_within-sum}
 use Rattle.mini.specs.Image.{image_of}
 use Rattle.bits.specs.ReadError.{number, number_not_zero}
-use Rattle.mini.specs.Read.{past_trailing_bits, test_chunks, reading_if, read_chunks, reading_of, Reading}
-use Rattle.mini.specs.Refusals.{header_told}
-use Rattle.mini.specs.Syntax.{header}
+use Rattle.mini.specs.Read.{test_chunks, reading_if, read_chunks, reading_of, Reading}
 use Rattle.bits.specs.declared.ReadError.{ReadError}
 use Rattle.mini.specs.declared.Header.{Header}
 use Rattle.mini.specs.declared.MinimizedImage.{MinimizedImage}
@@ -50,17 +47,6 @@ module _ (s : List ℕ) (h : Header) (b : State) where
       → record { refusal = 9; image = blank_image } ≡ read_chunks s h b
   unfolding stored_sizes
   chunks_short e f = sym (chunks_go false e (end_within-sum _ (length s) (b.at / 8) _ ∙ f))
-
--- the state past the header and the zero bits has met no refusal, or one of reading's
-pub told : (s : List ℕ) (b : State) → b ≡ past_trailing_bits s (header.parse s (clean 0)).1
-    → (b.refusal ≡ 0) ⊎ ((5 ≤ b.refusal) × (b.refusal ≤ 9))
-told s b e = go (eqb b.refusal 0) refl (subst (λ (x : State). T (is_reading_state x)) (sym e) (header_told s))
-  where
-    go : (t : Bool) → eqb b.refusal 0 ≡ t → T (t || is_reading_refusal b.refusal) → (b.refusal ≡ 0) ⊎ ((5 ≤ b.refusal) × (b.refusal ≤ 9))
-    go true f h = inl (eqb-true b.refusal 0 f)
-    go false f h =
-        let w = and_split (leb 5 b.refusal) (leb b.refusal 9) h in
-        inr (leb→le 5 b.refusal w.0, leb→le b.refusal 9 w.1)
 
 -- what a state before the chunks says, where it has met a refusal, and where it has none
 module _ (s : List ℕ) (h : Header) (b : State) where

@@ -9,15 +9,12 @@ use octets::part;
 pub fn chunk(payload: &[u8], c: Chunk) -> &[u8]
     ensures { ChunkPart payload.entry c result }
 {
-    let Some(Span { at, len }) = c else {
-        return part(payload, 0, 0);
-    };
-    part(payload, at, len)
+    span(payload, c.unwrap_or_default())
 }
 
 // The same of a chunk that is always present.
 pub fn span(payload: &[u8], s: Span) -> &[u8]
     ensures { Part payload.entry s.at s.len result }
 {
-    part(payload, s.at, s.len)
+    part(payload, s)
 }

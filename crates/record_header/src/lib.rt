@@ -1,18 +1,33 @@
 // The header of a record, in its narrowest forms: what `MinimizedImage::to_box` of mini.rs decides before it writes.
 #![tactic(auto)]
 
-ghost use Rattle.std.specs.Prelude.{◌≡◌};
+ghost use Rattle.std.specs.Prelude.{◌≡◌, ◌-◌, ◌^◌, ltb};
 ghost use Rattle.mini.specs.Write.{header_of, not_empty};
 
+use bits::Widths;
 use mini::{
-    Chunk, ChunkSizes, Dimensions, Flags, GainMapHeader, Header, MainFormat, MinimizedImage,
-    chunk_len,
+    CODEC_CONFIG, Chunk, ChunkSizes, DIMENSION, Dimensions, Flags, GainMapHeader, Header,
+    ITEM_DATA, METADATA, MainFormat, MinimizedImage, chunk_len,
 };
 
 pub fn not_empty(c: Chunk) -> bool
     ensures { result ≡ not_empty c }
 {
     c.is_none_or(|x| 0 < x.len)
+}
+
+// Whether a size takes the long form of its field.
+fn is_long(widths: Widths, n: usize) -> bool
+    ensures { result ≡ ltb (2 ^ widths.short - 1) n }
+{
+    1 << widths.short <= n
+}
+
+// Whether a number that is stored less one does.
+fn is_long_minus1(widths: Widths, n: usize) -> bool
+    ensures { result ≡ ltb (2 ^ widths.short) n }
+{
+    1 << widths.short < n
 }
 
 #[tactic(auto, unfolding(mini::specs::Write::header_of, mini::specs::Write::header_with))]
@@ -39,9 +54,9 @@ fn dimensions_of(i: MinimizedImage) -> Dimensions
     ensures { result ≡ (header_of i).dimensions }
 {
     let g = i.gain_map;
-    let large_gain_map = (128 < g.width) | (128 < g.height);
+    let is_large = |n| is_long_minus1(DIMENSION, n as usize);
     Dimensions {
-        large: (128 < i.width) | ((128 < i.height) | large_gain_map),
+        large: is_large(i.width) || is_large(i.height) || is_large(g.width) || is_large(g.height),
         width: i.width,
         height: i.height,
     }
@@ -65,10 +80,9 @@ fn gain_map_header_of(i: MinimizedImage) -> GainMapHeader
     ensures { result ≡ (header_of i).gain_map }
 {
     let g = i.gain_map;
-    let equal = (g.width == i.width) & (g.height == i.height);
     GainMapHeader {
         present: i.has_gain_map,
-        same_dimensions: i.has_gain_map & equal,
+        same_dimensions: i.has_gain_map && g.width == i.width && g.height == i.height,
         width: g.width,
         height: g.height,
         matrix_coefficients: g.matrix_coefficients,
@@ -94,13 +108,18 @@ fn sizes_of(i: MinimizedImage) -> ChunkSizes
     let alpha_codec_config = chunk_len(i.alpha_codec_config);
     let exif = chunk_len(i.exif);
     let xmp = chunk_len(i.xmp);
-    let large_text = (1023 < g.metadata.len) | ((1024 < exif) | (1024 < xmp));
-    let large_config = (7 < alpha_codec_config) | (7 < gain_map_codec_config);
-    let large_data = (32767 < i.alpha_data.len) | (32767 < g.data.len);
     ChunkSizes {
-        large_metadata: (1024 < icc) | ((1024 < tmap_icc) | large_text),
-        large_codec_config: (7 < i.main_codec_config.len) | large_config,
-        large_item_data: (32768 < i.main_data.len) | large_data,
+        large_metadata: is_long_minus1(METADATA, icc)
+            || is_long_minus1(METADATA, tmap_icc)
+            || is_long(METADATA, g.metadata.len)
+            || is_long_minus1(METADATA, exif)
+            || is_long_minus1(METADATA, xmp),
+        large_codec_config: is_long(CODEC_CONFIG, i.main_codec_config.len)
+            || is_long(CODEC_CONFIG, alpha_codec_config)
+            || is_long(CODEC_CONFIG, gain_map_codec_config),
+        large_item_data: is_long_minus1(ITEM_DATA, i.main_data.len)
+            || is_long(ITEM_DATA, i.alpha_data.len)
+            || is_long(ITEM_DATA, g.data.len),
         icc,
         tmap_icc,
         gain_map_metadata: g.metadata.len,

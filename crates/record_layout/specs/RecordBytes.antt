@@ -26,17 +26,17 @@ unfoldable pub chroma_bytes : MiniChroma → List ℕ
 chroma_bytes c = (c.subsampling ∷ []) ++ flag_bytes c.horizontally_centered ++ flag_bytes c.vertically_centered
 
 -- primaries, transfer, matrix
-unfoldable pub colour_bytes : ℕ → ℕ → ℕ → List ℕ
-colour_bytes primaries transfer matrix = (1 ∷ []) ++ (primaries ∷ []) ++ (transfer ∷ []) ++ (matrix ∷ [])
+unfoldable pub colour_bytes : Cicp → List ℕ
+colour_bytes c = (1 ∷ []) ++ (c.primaries ∷ []) ++ (c.transfer ∷ []) ++ (c.matrix ∷ [])
 
 abbrev pub cicp_bytes : Option Cicp → List ℕ
 cicp_bytes None = replicate 4 0
-cicp_bytes (Some c) = colour_bytes c.primaries c.transfer c.matrix
+cicp_bytes (Some c) = colour_bytes c
 
 -- and full range
 abbrev pub tmap_cicp_bytes : Option TmapCicp → List ℕ
 tmap_cicp_bytes None = replicate 5 0
-tmap_cicp_bytes (Some c) = colour_bytes c.primaries c.transfer c.matrix ++ flag_bytes c.full_range
+tmap_cicp_bytes (Some c) = colour_bytes c.cicp ++ flag_bytes c.full_range
 
 unfoldable pub hdr_flag_bytes : MiniHdrBoxes → List ℕ
 hdr_flag_bytes h =

@@ -11,6 +11,12 @@ use mini::{
 };
 use octets::{copy_in, put, put_u8, put_zeros};
 
+pub const RECORD_LEN: usize = 441;
+
+const HDR_BOXES_LEN: usize = 103;
+
+const GAIN_MAP_LEN: usize = 189;
+
 #[tactic(auto, using(octets::specs::OverwriteLaws::writes))]
 fn put_codec_types(out: &mut [u8], at: usize, t: Option<CodecTypes>) -> usize
     requires { at + 9 ≤ length out.old }
@@ -20,8 +26,8 @@ fn put_codec_types(out: &mut [u8], at: usize, t: Option<CodecTypes>) -> usize
         return put_zeros(out, at, 9);
     };
     let at = put_u8(out, at, 1);
-    let at = put::<4>(out, at, types.infe_type as u64);
-    put::<4>(out, at, types.codec_config_type as u64)
+    let at = put::<4>(out, at, u64::from(types.infe_type));
+    put::<4>(out, at, u64::from(types.codec_config_type))
 }
 
 #[tactic(auto, using(octets::specs::OverwriteLaws::writes), unfolding(crate::specs::RecordBytes::format_bytes))]
@@ -43,15 +49,16 @@ fn put_chroma(out: &mut [u8], at: usize, c: MiniChroma) -> usize
     put_flag(out, at, c.vertically_centered)
 }
 
+// A colour that is present: 1, and then its parts.
 #[tactic(auto, using(octets::specs::OverwriteLaws::writes), unfolding(crate::specs::RecordBytes::colour_bytes))]
-fn put_colour(out: &mut [u8], at: usize, primaries: u8, transfer: u8, matrix: u8) -> usize
+fn put_colour(out: &mut [u8], at: usize, c: Cicp) -> usize
     requires { at + 4 ≤ length out.old }
-    ensures { Wrote out.old at 4 (colour_bytes primaries transfer matrix) out.new result }
+    ensures { Wrote out.old at 4 (colour_bytes c) out.new result }
 {
     let at = put_u8(out, at, 1);
-    let at = put_u8(out, at, primaries);
-    let at = put_u8(out, at, transfer);
-    put_u8(out, at, matrix)
+    let at = put_u8(out, at, c.primaries);
+    let at = put_u8(out, at, c.transfer);
+    put_u8(out, at, c.matrix)
 }
 
 fn put_cicp(out: &mut [u8], at: usize, t: Option<Cicp>) -> usize
@@ -61,7 +68,7 @@ fn put_cicp(out: &mut [u8], at: usize, t: Option<Cicp>) -> usize
     let Some(cicp) = t else {
         return put_zeros(out, at, 4);
     };
-    put_colour(out, at, cicp.primaries, cicp.transfer, cicp.matrix)
+    put_colour(out, at, cicp)
 }
 
 #[tactic(auto, using(octets::specs::OverwriteLaws::writes))]
@@ -69,11 +76,11 @@ fn put_tmap_cicp(out: &mut [u8], at: usize, t: Option<TmapCicp>) -> usize
     requires { at + 5 ≤ length out.old }
     ensures { Wrote out.old at 5 (tmap_cicp_bytes t) out.new result }
 {
-    let Some(cicp) = t else {
+    let Some(tmap) = t else {
         return put_zeros(out, at, 5);
     };
-    let at = put_colour(out, at, cicp.primaries, cicp.transfer, cicp.matrix);
-    put_flag(out, at, cicp.full_range)
+    let at = put_colour(out, at, tmap.cicp);
+    put_flag(out, at, tmap.full_range)
 }
 
 #[tactic(auto, using(octets::specs::OverwriteLaws::writes), unfolding(crate::specs::RecordBytes::hdr_flag_bytes))]
@@ -118,7 +125,7 @@ fn put_hdr_boxes_if(out: &mut [u8], at: usize, on: bool, h: MiniHdrBoxes) -> usi
     if on {
         put_hdr_boxes(out, at, h)
     } else {
-        put_zeros(out, at, 103)
+        put_zeros(out, at, HDR_BOXES_LEN)
     }
 }
 
@@ -127,8 +134,8 @@ fn put_gain_map_picture(out: &mut [u8], at: usize, g: MiniGainMap) -> usize
     requires { at + 20 ≤ length out.old }
     ensures { Wrote out.old at 20 (gain_map_picture_bytes g) out.new result }
 {
-    let at = put::<4>(out, at, g.width as u64);
-    let at = put::<4>(out, at, g.height as u64);
+    let at = put::<4>(out, at, u64::from(g.width));
+    let at = put::<4>(out, at, u64::from(g.height));
     let at = put_u8(out, at, g.matrix_coefficients);
     let at = put_flag(out, at, g.full_range);
     let at = put_chroma(out, at, g.chroma);
@@ -156,7 +163,7 @@ fn put_gain_map_if(out: &mut [u8], at: usize, on: bool, g: MiniGainMap) -> usize
     if on {
         put_gain_map(out, at, g)
     } else {
-        put_zeros(out, at, 189)
+        put_zeros(out, at, GAIN_MAP_LEN)
     }
 }
 
@@ -171,8 +178,8 @@ fn put_picture(out: &mut [u8], at: usize, i: MinimizedImage) -> usize
     let at = put_flag(out, at, i.full_range);
     let at = put_chroma(out, at, i.chroma);
     let at = put_u8(out, at, i.orientation);
-    let at = put::<4>(out, at, i.width as u64);
-    put::<4>(out, at, i.height as u64)
+    let at = put::<4>(out, at, u64::from(i.width));
+    put::<4>(out, at, u64::from(i.height))
 }
 
 // Colour, alpha and hdr.
@@ -216,15 +223,10 @@ pub fn put_record(out: &mut [u8], at: usize, i: MinimizedImage) -> usize
     put_items(out, at, i)
 }
 
-fn hdr_boxes_len(h: MiniHdrBoxes) -> usize
-    ensures { (result ≡ length (hdr_boxes_bytes h)) × (result ≡ 103) }
-{
-    103
-}
-
-// How many bytes `put_record` writes.
+// How many bytes `put_record` writes: the same for each record.
+#[tactic(auto, using(crate::specs::RecordLength::length_record, crate::specs::RecordLength::length_hdr))]
 pub fn record_len(i: MinimizedImage) -> usize
     ensures { (result ≡ length (record_bytes i)) × (result ≡ 441) }
 {
-    hdr_boxes_len(i.hdr_boxes) + hdr_boxes_len(i.gain_map.tmap_hdr) + 235
+    RECORD_LEN
 }

@@ -4,12 +4,13 @@
 use anyhow::Context;
 use std::alloc::Global;
 use std::fs;
+use std::str::SplitWhitespace;
 
 // What an output holds before the call.
 const FILLER: u8 = 0xa5;
 
-// 2^48: an answer is a refusal's number times this, plus a length.
-const UNIT: u64 = 281474976710656;
+// An answer is a refusal's number times this, plus a length: written out here, since the tables hold what callers see.
+const UNIT: u64 = 1 << 48;
 
 // The bytes of a field: hexadecimal, or '-' for none.
 fn bytes(alloc: Global, field: Option<&str>) -> anyhow::Result<Vec<u8>> {
@@ -25,12 +26,25 @@ fn number(field: Option<&str>) -> anyhow::Result<u64> {
     Ok(field.context("a number is missing")?.parse::<u64>()?)
 }
 
-// Whether the answer is this refusal and the length of `want`, and `out` holds `want` and the filler after it.
-fn is_answer(answer: u64, refusal: u64, want: &[u8], out: &[u8]) -> bool {
-    answer / UNIT == refusal
-        && answer % UNIT == want.len() as u64
-        && out.starts_with(want)
-        && out[want.len()..].iter().all(|&b| b == FILLER)
+// Whether a call with an output full of filler answers what the rest of its line says: the number of a refusal, and the bytes that it writes, the
+// filler after them.
+fn agrees<F: FnOnce(&mut [u8]) -> u64>(
+    alloc: Global,
+    mut fields: SplitWhitespace,
+    out: &mut [u8],
+    call: F,
+) -> anyhow::Result<bool>
+    requires { F.IsAlwaysCallable call }
+{
+    let refusal = number(fields.next())?;
+    let want = bytes(alloc, fields.next())?;
+    let answer = call(out);
+    Ok(
+        answer / UNIT == refusal
+            && answer % UNIT == want.len() as u64
+            && out.starts_with(&want)
+            && out[want.len()..].iter().all(|&b| b == FILLER),
+    )
 }
 
 // One line: a buffer, a start, the number of a refusal, and the header's bytes.
@@ -38,22 +52,24 @@ fn box_header_agrees(alloc: Global, line: &str) -> anyhow::Result<bool> {
     let mut fields = line.split_whitespace();
     let buf = bytes(alloc, fields.next())?;
     let start = number(fields.next())?;
-    let refusal = number(fields.next())?;
-    let want = bytes(alloc, fields.next())?;
-    let mut out = [FILLER; 64];
-    let answer = exports::bustardcase_box_header(&buf, start as usize, &mut out);
-    Ok(is_answer(answer, refusal, &want, &out))
+    agrees(
+        alloc,
+        fields,
+        &mut [FILLER; 64],
+        |out| exports::bustardcase_box_header(&buf, start as usize, out),
+    )
 }
 
 // One line: a payload, the number of a refusal, and the record's bytes.
 fn reading_agrees(alloc: Global, line: &str) -> anyhow::Result<bool> {
     let mut fields = line.split_whitespace();
     let payload = bytes(alloc, fields.next())?;
-    let refusal = number(fields.next())?;
-    let want = bytes(alloc, fields.next())?;
-    let mut out = [FILLER; 512];
-    let answer = exports::bustardcase_read(&payload, &mut out);
-    Ok(is_answer(answer, refusal, &want, &out))
+    agrees(
+        alloc,
+        fields,
+        &mut [FILLER; 512],
+        |out| exports::bustardcase_read(&payload, out),
+    )
 }
 
 // Replays each line of a table but the comments, which begin with '#'. A line that cannot be read counts as one that differs; a table that cannot be
@@ -62,9 +78,9 @@ fn replay<F: Fn(Global, &str) -> anyhow::Result<bool>>(
     rt: &HostRuntime,
     name: &str,
     path: &str,
-    agrees: F,
+    line_agrees: F,
 ) -> anyhow::Result<()>
-    requires { F.IsAlwaysCallable agrees }
+    requires { F.IsAlwaysCallable line_agrees }
 {
     let alloc = rt.alloc();
     let text = match fs::read_to_string(rt, path) {
@@ -74,14 +90,13 @@ fn replay<F: Fn(Global, &str) -> anyhow::Result<bool>>(
             return Ok(());
         }
     };
-    let mut agreed = Vec::new(alloc);
-    for line in text.lines() {
-        if !line.starts_with('#') {
-            agreed.push(agrees(alloc, line).unwrap_or(false))?;
-        }
-    }
-    let lines = agreed.len();
-    let differ = agreed.iter().filter(|&&agrees| !agrees).count();
+    let is_call = |line: &&str| !line.starts_with('#');
+    let lines = text.lines().filter(is_call).count();
+    let differ = text
+        .lines()
+        .filter(is_call)
+        .filter(|line| !line_agrees(alloc, line).unwrap_or(false))
+        .count();
     println!(rt; "{name}: {lines} replayed, {differ} differ")?;
     Ok(())
 }

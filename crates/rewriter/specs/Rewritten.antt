@@ -5,7 +5,7 @@ use Rattle.std.proofs.Math.Pow.{are_bytes}
 use Rattle.mini.specs.Read.{read_mini}
 use Rattle.mini.specs.RoundTrip.{ReadsTo}
 use Rattle.writer.specs.ToBox.{refused, written}
-use Rattle.writer.specs.Outcome.{Written}
+use Rattle.refusals.specs.Outcome.{Written}
 
 -- the reader's refusal, or the record's box: 16 where the output is shorter. What is read is well placed and can be written
 -- (`read_is_written`), so 10 and 11 do not occur

@@ -15,7 +15,7 @@ use Rattle.mini.specs.declared.MinimizedImage.{MinimizedImage}
 use Rattle.writer.specs.Needed.{box_small}
 use Rattle.mini.specs.RecordHeader.{T_true}
 use Rattle.writer.specs.ToBox.{box_of, refused, written, answer, past_11}
-use Rattle.writer.specs.Outcome.{Written}
+use Rattle.refusals.specs.Outcome.{Written}
 use Rattle.rewriter.specs.Rewritten.{rewritten, WrittenBack}
 
 -- what is read is written: neither 10 nor 11

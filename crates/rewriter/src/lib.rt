@@ -2,12 +2,13 @@
 #![tactic(auto)]
 
 ghost use Rattle.std.specs.Prelude.{◌≡◌, ◌≤◌, ◌<◌, take, drop, IfOk};
-ghost use Rattle.rewriter.specs.Outcome.{number, needed_in, outcome_of};
+ghost use Rattle.rewriter.specs.Outcome.{number, number_not_zero, needed_in, outcome_of};
 ghost use Rattle.rewriter.specs.Rewritten.{rewritten, WrittenBack};
 ghost use Rattle.rewriter.specs.declared.RewriteError.TheVariants.{Reading, Writing};
 
 use bits::ReadError;
 use reader::parse;
+use refusals::Refusal;
 use writer::{WriteError, to_box};
 
 // Why a payload is not rewritten: the reader's refusal, or the writer's.
@@ -33,23 +34,23 @@ impl From<WriteError> for RewriteError {
     }
 }
 
-impl RewriteError {
-    // The number of the refusal.
-    pub fn number(self) -> u8
-        ensures { result ≡ number self }
-    {
+impl Refusal for RewriteError {
+    ghost number = { number };
+
+    ghost needed = { needed_in };
+
+    ghost not_zero = { number_not_zero };
+
+    fn number(self) -> u8 {
         match self {
             RewriteError::Reading(error) => error.number(),
             RewriteError::Writing(error) => error.number(),
         }
     }
 
-    // The length that comes with it: the one needed, else 0.
-    pub fn needed(self) -> usize
-        ensures { result ≡ needed_in self }
-    {
+    fn needed(self) -> usize {
         match self {
-            RewriteError::Reading(_) => 0,
+            RewriteError::Reading(error) => error.needed(),
             RewriteError::Writing(error) => error.needed(),
         }
     }
@@ -62,6 +63,5 @@ pub fn rewrite(payload: &[u8], out: &mut [u8]) -> Result<usize, RewriteError>
     ensures bounds { ((outcome_of result).refusal ≤ 16) × ((outcome_of result).len < 4294967296) }
 {
     let image = parse(payload)?;
-    let len = to_box(image, payload, out)?;
-    Ok(len)
+    Ok(to_box(image, payload, out)?)
 }

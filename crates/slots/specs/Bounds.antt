@@ -6,7 +6,7 @@ use Rattle.mini.specs.Same.{chunk_len}
 use Rattle.mini.specs.declared.MiniChroma.{MiniChroma}
 use Rattle.mini.specs.declared.MiniHdrBoxes.{MiniHdrBoxes}
 use Rattle.mini.specs.declared.MinimizedImage.{MinimizedImage}
-use Rattle.mini.specs.declared.Span.{Span}
+use Rattle.octets.specs.declared.Span.{Span}
 use Rattle.properties.specs.HdrBoxes.{cclv_len}
 use Rattle.properties.specs.Lengths.{cclv_len_most}
 use Rattle.properties.specs.Orientation.{turns_of}

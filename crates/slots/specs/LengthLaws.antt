@@ -12,7 +12,7 @@ use Rattle.mini.specs.ShownSize.{shown_size}
 use Rattle.mini.specs.declared.CodecTypes.{CodecTypes}
 use Rattle.mini.specs.declared.MiniHdrBoxes.{MiniHdrBoxes}
 use Rattle.mini.specs.declared.MinimizedImage.{MinimizedImage}
-use Rattle.mini.specs.declared.Span.{Span}
+use Rattle.octets.specs.declared.Span.{Span}
 use Rattle.mini.specs.declared.TmapCicp.{TmapCicp}
 use Rattle.properties.specs.HdrBoxes.{clli, clli_len, mdcv, mdcv_len, cclv, cclv_len, amve, amve_len, reve, reve_len, ndwt, ndwt_len}
 use Rattle.properties.specs.Lengths.{length-ispe, length-nclx, length-prof, length-codec_config, length-aux_c, length-irot, length-imir, length-pixi, length-clli, length-mdcv, length-cclv, length-amve, length-reve, length-ndwt}
@@ -57,7 +57,7 @@ length_mirror (Some axis) = length-imir axis
 
 length_colour : (c : Option TmapCicp) → length (tmap_nclx c) ≡ nclx_len
 length_colour None = length-nclx 1 13 6 true
-length_colour (Some c) = length-nclx c.primaries c.transfer c.matrix c.full_range
+length_colour (Some c) = length-nclx c.cicp.primaries c.cicp.transfer c.cicp.matrix c.full_range
 
 length_shown : (i : MinimizedImage) → length (shown_ispe i) ≡ ispe_len
 length_shown i = length-ispe (shown_size i).width (shown_size i).height

@@ -3,7 +3,7 @@ use Rattle.std.specs.Prelude.{Bool, not, cond, ◌||◌, List, [], ◌∷◌, �
 use Rattle.mini.specs.Cut.{sum}
 use Rattle.mini.specs.declared.MiniHdrBoxes.{MiniHdrBoxes}
 use Rattle.mini.specs.declared.MinimizedImage.{MinimizedImage}
-use Rattle.mini.specs.declared.Span.{Span}
+use Rattle.octets.specs.declared.Span.{Span}
 use Rattle.mini.specs.declared.TmapCicp.{TmapCicp}
 use Rattle.properties.specs.HdrBoxes.{clli_len, mdcv_len, cclv_len, amve_len, reve_len, ndwt_len}
 use Rattle.properties.specs.Orientation.{turns_of}

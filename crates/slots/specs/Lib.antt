@@ -8,3 +8,4 @@ pub mod SlotLaws
 pub mod Slots
 pub mod Sound
 pub mod Used
+pub mod HdrSlots

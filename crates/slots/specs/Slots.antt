@@ -24,7 +24,7 @@ use Rattle.mini.specs.ShownSize.{shown_size}
 use Rattle.mini.specs.declared.CodecTypes.{CodecTypes}
 use Rattle.mini.specs.declared.MiniHdrBoxes.{MiniHdrBoxes}
 use Rattle.mini.specs.declared.MinimizedImage.{MinimizedImage}
-use Rattle.mini.specs.declared.Span.{Span}
+use Rattle.octets.specs.declared.Span.{Span}
 use Rattle.mini.specs.declared.TmapCicp.{TmapCicp}
 use Rattle.properties.specs.HdrBoxes.{clli, mdcv, cclv, amve, reve, ndwt}
 use Rattle.properties.specs.Orientation.{turns_of}
@@ -100,7 +100,7 @@ imir_slot axis = turn_slot imir axis
 -- the tone map's colour: sRGB where it is not told (Table O.5)
 abbrev pub tmap_nclx : Option TmapCicp → List ℕ
 tmap_nclx None = nclx 1 13 6 true
-tmap_nclx (Some c) = nclx c.primaries c.transfer c.matrix c.full_range
+tmap_nclx (Some c) = nclx c.cicp.primaries c.cicp.transfer c.cicp.matrix c.full_range
 
 -- a profile alone needs no colour beside it
 abbrev pub tmap_nclx_slot : Option TmapCicp → Option Span → Slot

@@ -9,7 +9,7 @@ use Rattle.mini.specs.Same.{chunk_len, chunk_in, span_in, gain_in, unplaced_chun
 use Rattle.mini.specs.Write.{writable}
 use Rattle.mini.specs.declared.MiniGainMap.{MiniGainMap}
 use Rattle.mini.specs.declared.MinimizedImage.{MinimizedImage}
-use Rattle.mini.specs.declared.Span.{Span}
+use Rattle.octets.specs.declared.Span.{Span}
 use Rattle.slots.specs.Slots.{config_or}
 
 abbrev pub SpanPlaced : Span → List ℕ → Type 0

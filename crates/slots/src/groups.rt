@@ -1,17 +1,18 @@
 // The slots of 'ipco' in their groups, and the box.
-ghost use Rattle.std.specs.Prelude.{◌≡◌, ◌+◌, ◌≤◌, ◌<◌, length};
+ghost use Rattle.std.specs.Prelude.{◌≡◌, ◌+◌, ◌≤◌, ◌<◌, length, map};
+ghost use Rattle.std.specs.List.{sum_by};
 ghost use Rattle.octets.specs.Overwrite.{Wrote};
 ghost use Rattle.mini.specs.Cut.{sum};
-ghost use Rattle.properties.specs.Property.{ispe_len};
+ghost use Rattle.slots.specs.HdrSlots.{hdr_boxes, hdr_slot, hdr_slot_len};
 ghost use Rattle.slots.specs.Lengths.{if_there_len, main_lens, alpha_lens, orientation_lens, hdr_lens, gain_map_lens, tmap_lens, picture_len, tone_map_len, ipco_len};
-ghost use Rattle.slots.specs.Slots.{has_alpha_item, has_gain_map_item, config_type, alpha_config, gain_map_config, if_there, shown_ispe, main_slots, alpha_slots, orientation_slots, hdr_slots, gain_map_slots, tmap_slots, picture_slots, tone_map_slots, slots, slots_bytes, ipco};
+ghost use Rattle.slots.specs.Slots.{has_alpha_item, has_gain_map_item, config_type, alpha_config, gain_map_config, if_there, main_slots, alpha_slots, orientation_slots, hdr_slots, gain_map_slots, tmap_slots, picture_slots, tone_map_slots, slots, slots_bytes, ipco};
 ghost use Rattle.slots.specs.Sound.{Bounded, Sound};
 
 use crate::slot::{
     put_config_slot, put_hdr_slot, put_prof_slot, put_tmap_nclx_slot, put_turn_slot, put_unused,
 };
-use boxes::{FourCc, put_box_header};
-use mini::{Cicp, CodecTypes, MiniHdrBoxes, MinimizedImage, Span};
+use boxes::{FourCc, put_boxed};
+use mini::{Cicp, CodecTypes, MiniHdrBoxes, MinimizedImage, Size, Span};
 use properties::hdr_boxes::HdrBox;
 use properties::orientation::turns_of;
 use properties::pixi::{put_alpha_pixi, put_pixi};
@@ -20,7 +21,7 @@ use properties::property::{IMIR, IROT, put_auxc, put_ispe, put_nclx};
 const IPCO: FourCc = 0x6970636F;
 
 // The slots 30 to 32 have no property.
-const LAST_UNUSED: usize = 3;
+pub const UNUSED_AT_END: usize = 3;
 
 // Whether there is an alpha item.
 pub fn has_alpha_item(image: MinimizedImage) -> bool
@@ -53,8 +54,8 @@ pub fn alpha_config(image: MinimizedImage) -> Span
 pub fn gain_map_config(image: MinimizedImage) -> Span
     ensures { result ≡ gain_map_config image }
 {
-    let g = image.gain_map;
-    g.codec_config.unwrap_or(image.main_codec_config)
+    let own = image.gain_map.codec_config;
+    own.unwrap_or(image.main_codec_config)
 }
 
 // 1 to 5.
@@ -63,9 +64,13 @@ fn put_main_slots(out: &mut [u8], at: usize, image: MinimizedImage, source: &[u8
     requires { (at + sum (main_lens image) ≤ length out.old) × Sound image source.now }
     ensures { Wrote out.old at (sum (main_lens image)) (slots_bytes (main_slots image source.now)) out.new result }
 {
+    let size = Size {
+        width: image.width,
+        height: image.height,
+    };
     let box_type = config_type(image.explicit_codec_types);
     let at = put_config_slot(out, at, box_type, image.main_codec_config, source);
-    let at = put_ispe(out, at, image.width, image.height);
+    let at = put_ispe(out, at, size);
     let at = put_pixi(out, at, image.format, image.chroma);
     let at = put_nclx(out, at, image.cicp(), image.full_range);
     put_prof_slot(out, at, image.icc, source)
@@ -82,7 +87,7 @@ fn put_alpha_item_slots(out: &mut [u8], at: usize, image: MinimizedImage, source
     put_alpha_pixi(out, at, image.format)
 }
 
-// 6 to 8.
+// 6 to 8. Here and below, which slots stay unused is said by an `if`: one function for all would take a closure (`len_if`, items).
 #[tactic(auto, unfolding(crate::specs::Slots::alpha_slots))]
 fn put_alpha_slots(out: &mut [u8], at: usize, image: MinimizedImage, source: &[u8]) -> usize
     requires { (at + if_there_len (has_alpha_item image) (alpha_lens image) ≤ length out.old) × Sound image source.now }
@@ -106,18 +111,39 @@ fn put_orientation_slots(out: &mut [u8], at: usize, image: MinimizedImage) -> us
     put_turn_slot(out, at, IMIR, turns.axis)
 }
 
+// The HDR boxes that the record holds, in the order of their slots.
+pub fn hdr_boxes(h: MiniHdrBoxes) -> [Option<HdrBox>; 6]
+    ensures { result ≡ hdr_boxes h }
+{
+    [
+        h.has_clli.then_some(HdrBox::Clli(h.clli)),
+        h.has_mdcv.then_some(HdrBox::Mdcv(h.mdcv)),
+        h.has_cclv.then_some(HdrBox::Cclv(h.cclv)),
+        h.has_amve.then_some(HdrBox::Amve(h.amve)),
+        h.has_reve.then_some(HdrBox::Reve(h.reve)),
+        h.has_ndwt.then_some(HdrBox::Ndwt(h.ndwt)),
+    ]
+}
+
+#[tactic(auto, using(crate::proofs::Laws::hdr_writes))]
+fn put_hdr_boxes(out: &mut [u8], at: usize, boxes: &[Option<HdrBox>]) -> usize
+    requires { at + sum_by hdr_slot_len boxes.now ≤ length out.old }
+    ensures { Wrote out.old at (sum_by hdr_slot_len boxes.now) (slots_bytes (map hdr_slot boxes.now)) out.new result }
+{
+    let mut next = at;
+    for &held in boxes {
+        next = put_hdr_slot(out, next, held);
+    }
+    next
+}
+
 // 11 to 16, or 24 to 29.
-#[tactic(auto, using(crate::proofs::Laws::slot_writes), unfolding(crate::specs::Slots::hdr_slots, crate::specs::Slots::slots_bytes))]
+#[tactic(auto, using(crate::specs::HdrSlots::hdr_slots_are, crate::specs::HdrSlots::hdr_lens_are))]
 fn put_hdr_slots(out: &mut [u8], at: usize, h: MiniHdrBoxes) -> usize
     requires { at + sum (hdr_lens h) ≤ length out.old }
     ensures { Wrote out.old at (sum (hdr_lens h)) (slots_bytes (hdr_slots h)) out.new result }
 {
-    let at = put_hdr_slot(out, at, h.has_clli, HdrBox::Clli(h.clli));
-    let at = put_hdr_slot(out, at, h.has_mdcv, HdrBox::Mdcv(h.mdcv));
-    let at = put_hdr_slot(out, at, h.has_cclv, HdrBox::Cclv(h.cclv));
-    let at = put_hdr_slot(out, at, h.has_amve, HdrBox::Amve(h.amve));
-    let at = put_hdr_slot(out, at, h.has_reve, HdrBox::Reve(h.reve));
-    put_hdr_slot(out, at, h.has_ndwt, HdrBox::Ndwt(h.ndwt))
+    put_hdr_boxes(out, at, &hdr_boxes(h))
 }
 
 #[tactic(auto, using(crate::proofs::Laws::slot_writes), unfolding(crate::specs::Slots::gain_map_slots, crate::specs::Slots::slots_bytes))]
@@ -126,6 +152,10 @@ fn put_gain_map_item_slots(out: &mut [u8], at: usize, image: MinimizedImage, sou
     ensures { Wrote out.old at (sum (gain_map_lens image)) (slots_bytes (gain_map_slots image source.now)) out.new result }
 {
     let g = image.gain_map;
+    let size = Size {
+        width: g.width,
+        height: g.height,
+    };
     let cicp = Cicp {
         primaries: 2,
         transfer: 2,
@@ -133,7 +163,7 @@ fn put_gain_map_item_slots(out: &mut [u8], at: usize, image: MinimizedImage, sou
     };
     let box_type = config_type(image.explicit_codec_types);
     let at = put_config_slot(out, at, box_type, gain_map_config(image), source);
-    let at = put_ispe(out, at, g.width, g.height);
+    let at = put_ispe(out, at, size);
     let at = put_pixi(out, at, g.format, g.chroma);
     put_nclx(out, at, cicp, g.full_range)
 }
@@ -151,22 +181,13 @@ fn put_gain_map_slots(out: &mut [u8], at: usize, image: MinimizedImage, source: 
     }
 }
 
-// The size as shown.
-fn put_shown_ispe(out: &mut [u8], at: usize, image: MinimizedImage) -> usize
-    requires { at + ispe_len ≤ length out.old }
-    ensures { Wrote out.old at ispe_len (shown_ispe image) out.new result }
-{
-    let size = image.shown_size();
-    put_ispe(out, at, size.width, size.height)
-}
-
 #[tactic(auto, using(crate::proofs::Laws::slot_writes), unfolding(crate::specs::Slots::tmap_slots, crate::specs::Slots::slots_bytes))]
 fn put_tmap_item_slots(out: &mut [u8], at: usize, image: MinimizedImage, source: &[u8]) -> usize
     requires { (at + sum (tmap_lens image) ≤ length out.old) × Sound image source.now }
     ensures { Wrote out.old at (sum (tmap_lens image)) (slots_bytes (tmap_slots image source.now)) out.new result }
 {
     let g = image.gain_map;
-    let at = put_shown_ispe(out, at, image);
+    let at = put_ispe(out, at, image.shown_size());
     let at = put_tmap_nclx_slot(out, at, g.tmap_cicp, g.tmap_icc);
     put_prof_slot(out, at, g.tmap_icc, source)
 }
@@ -218,7 +239,7 @@ fn put_tone_map_slots(out: &mut [u8], at: usize, image: MinimizedImage, source: 
     let at = put_gain_map_slots(out, at, image, source);
     let at = put_tmap_slots(out, at, image, source);
     let at = put_tmap_hdr_slots(out, at, image.has_gain_map, image.gain_map.tmap_hdr);
-    put_unused(out, at, LAST_UNUSED)
+    put_unused(out, at, UNUSED_AT_END)
 }
 
 #[tactic(auto, using(crate::proofs::Laws::slot_writes), unfolding(crate::specs::Slots::slots))]
@@ -235,6 +256,5 @@ pub fn put_ipco(out: &mut [u8], at: usize, image: MinimizedImage, source: &[u8])
     requires { (at + ipco_len image ≤ length out.old) × Sound image source.now }
     ensures { Wrote out.old at (ipco_len image) (ipco image source.now) out.new result }
 {
-    let len = ipco_body(&mut out[at + 8..], image, source);
-    put_box_header(out, at, len, IPCO)
+    put_boxed(out, at, IPCO, |part| ipco_body(part, image, source))
 }

@@ -8,11 +8,12 @@ ghost use Rattle.slots.specs.Sound.{Sound};
 
 use crate::associations::put_ipma;
 use crate::groups::put_ipco;
-use boxes::{FourCc, put_box_header};
+use boxes::{FourCc, put_boxed};
 use mini::MinimizedImage;
 
 const IPRP: FourCc = 0x69707270;
 
+#[tactic(auto, using(crate::proofs::Laws::used_laws), unfolding(crate::specs::Associations::ipma))]
 fn iprp_body(out: &mut [u8], image: MinimizedImage, source: &[u8]) -> usize
     requires { (ipco_len image + ipma_len image ≤ length out.old) × Sound image source.now }
     ensures { Wrote out.old 0 (ipco_len image + ipma_len image) (ipco image source.now ++ ipma image source.now) out.new result }
@@ -26,6 +27,5 @@ pub fn put_iprp(out: &mut [u8], at: usize, image: MinimizedImage, source: &[u8])
     requires { (at + iprp_len image ≤ length out.old) × Sound image source.now }
     ensures { Wrote out.old at (iprp_len image) (iprp image source.now) out.new result }
 {
-    let len = iprp_body(&mut out[at + 8..], image, source);
-    put_box_header(out, at, len, IPRP)
+    put_boxed(out, at, IPRP, |part| iprp_body(part, image, source))
 }

@@ -1,44 +1,60 @@
-// How long 'iprp' is, from the record alone. `Bounded image` stands in the contracts, here and beside: as a ghost field of a struct it proves too,
-// but then each use of the record is a field of that struct, and the contracts and bodies grow by more than the clause.
+// How long 'iprp' is, from the record alone. `Bounded image` stands in the contracts here, `Sound image source.now` in those of the writers beside:
+// as a ghost field of a struct each proves too, but then each use of the record is a field of that struct, and the contracts and bodies grow by
+// more than the clause.
 ghost use Rattle.std.specs.Prelude.{◌≡◌, ◌+◌, ◌≤◌, length};
+ghost use Rattle.std.specs.List.{sum_by};
 ghost use Rattle.mini.specs.Cut.{sum};
 ghost use Rattle.mini.specs.Same.{chunk_len};
-ghost use Rattle.properties.specs.HdrBoxes.{hdr_box_len};
-ghost use Rattle.properties.specs.Pixi.{channels_of, pixi_len};
-ghost use Rattle.slots.specs.Lengths.{only_if_len, prof_slot_len, turn_slot_len, tmap_nclx_slot_len, if_there_len, main_lens, alpha_lens, orientation_lens, hdr_lens, gain_map_lens, tmap_lens, picture_len, tone_map_len, row_if_len, ipma_len, iprp_len};
+ghost use Rattle.slots.specs.HdrSlots.{hdr_slot_len};
+ghost use Rattle.slots.specs.Lengths.{config_slot_len, prof_slot_len, turn_slot_len, tmap_nclx_slot_len, if_there_len, main_lens, alpha_lens, orientation_lens, hdr_lens, gain_map_lens, tmap_lens, picture_len, tone_map_len, row_len, row_if_len, ipma_body_len, ipma_len, iprp_len};
 ghost use Rattle.slots.specs.Slots.{has_alpha_item, has_gain_map_item};
 ghost use Rattle.slots.specs.Sound.{Bounded};
 
-use crate::associations::{ALPHA_ROW, GAIN_MAP_ROW, MAIN_ROW, TMAP_ROW, kept_len, used_slots};
-use crate::groups::{alpha_config, gain_map_config, has_alpha_item, has_gain_map_item};
-use mini::{Chunk, MiniChroma, MiniHdrBoxes, MinimizedImage, TmapCicp};
+use crate::associations::{ALPHA_ROW, GAIN_MAP_ROW, MAIN_ROW, TMAP_ROW, UsedSlots, used_slots};
+use crate::groups::{
+    UNUSED_AT_END, alpha_config, gain_map_config, has_alpha_item, has_gain_map_item, hdr_boxes,
+};
+use crate::slot::{FREE_LEN, has_tmap_nclx};
+use boxes::BOX_HEADER_LEN;
+use mini::{Chunk, MiniHdrBoxes, MinimizedImage, Span, TmapCicp};
 use properties::hdr_boxes::HdrBox;
 use properties::orientation::turns_of;
+use properties::pixi::{ALPHA_PIXI_LEN, pixi_len};
+use properties::property::{AUXC_LEN, ISPE_LEN, NCLX_LEN, TURN_LEN};
 
+// How many bytes of a row of 'ipma' come before its associations.
+const ROW_HEAD_LEN: usize = 3;
+
+fn config_slot_len(config: Span) -> usize
+    requires { config.len ≤ 4095 }
+    ensures { (result ≡ config_slot_len config) × (result ≤ 4103) }
+{
+    BOX_HEADER_LEN + config.len
+}
+
+// A profile has its colour type before it.
 fn prof_slot_len(icc: Chunk) -> usize
     requires { chunk_len icc ≤ 1048576 }
     ensures { (result ≡ prof_slot_len icc) × (result ≤ 1048588) }
 {
-    icc.map_or(8, |icc| 12 + icc.len)
+    icc.map_or(FREE_LEN, |icc| BOX_HEADER_LEN + 4 + icc.len)
 }
 
 fn turn_slot_len(turn: Option<u8>) -> usize
     ensures { (result ≡ turn_slot_len turn) × (result ≤ 9) }
 {
-    8 + usize::from(turn.is_some())
-}
-
-fn pixi_len(chroma: MiniChroma) -> usize
-    ensures { (result ≡ pixi_len (channels_of chroma)) × (result ≤ 22) }
-{
-    if chroma.subsampling == 0 { 16 } else { 22 }
+    turn.map_or(FREE_LEN, |_| TURN_LEN)
 }
 
 fn main_len(image: MinimizedImage) -> usize
     requires { Bounded image }
     ensures { (result ≡ sum (main_lens image)) × (result ≤ 1052752) }
 {
-    image.main_codec_config.len + pixi_len(image.chroma) + prof_slot_len(image.icc) + 47
+    config_slot_len(image.main_codec_config)
+        + ISPE_LEN
+        + pixi_len(image.chroma)
+        + NCLX_LEN
+        + prof_slot_len(image.icc)
 }
 
 fn alpha_len(image: MinimizedImage) -> usize
@@ -46,9 +62,9 @@ fn alpha_len(image: MinimizedImage) -> usize
     ensures { (result ≡ if_there_len (has_alpha_item image) (alpha_lens image)) × (result ≤ 4175) }
 {
     if has_alpha_item(image) {
-        alpha_config(image).len + 80
+        config_slot_len(alpha_config(image)) + AUXC_LEN + ALPHA_PIXI_LEN
     } else {
-        24
+        3 * FREE_LEN
     }
 }
 
@@ -60,21 +76,24 @@ fn orientation_len(image: MinimizedImage) -> usize
     turn_slot_len(turns.angle) + turn_slot_len(turns.axis)
 }
 
-fn hdr_slot_len(used: bool, body: HdrBox) -> usize
-    ensures { (result ≡ only_if_len used (hdr_box_len body)) × (result ≤ 45) }
+fn hdr_slot_len(held: Option<HdrBox>) -> usize
+    ensures { (result ≡ hdr_slot_len held) × (result ≤ 45) }
 {
-    if used { body.len() } else { 8 }
+    held.map_or(FREE_LEN, HdrBox::len)
 }
 
+fn hdr_boxes_len(boxes: &[Option<HdrBox>]) -> usize
+    requires { sum_by hdr_slot_len boxes.now ≤ 153 }
+    ensures { result ≡ sum_by hdr_slot_len boxes.now }
+{
+    boxes.iter().map(|held| hdr_slot_len(*held)).sum()
+}
+
+#[tactic(auto, using(crate::specs::HdrSlots::hdr_lens_are, crate::specs::Bounds::hdr_most))]
 fn hdr_len(h: MiniHdrBoxes) -> usize
     ensures { (result ≡ sum (hdr_lens h)) × (result ≤ 153) }
 {
-    hdr_slot_len(h.has_clli, HdrBox::Clli(h.clli))
-        + hdr_slot_len(h.has_mdcv, HdrBox::Mdcv(h.mdcv))
-        + hdr_slot_len(h.has_cclv, HdrBox::Cclv(h.cclv))
-        + hdr_slot_len(h.has_amve, HdrBox::Amve(h.amve))
-        + hdr_slot_len(h.has_reve, HdrBox::Reve(h.reve))
-        + hdr_slot_len(h.has_ndwt, HdrBox::Ndwt(h.ndwt))
+    hdr_boxes_len(&hdr_boxes(h))
 }
 
 fn gain_map_len(image: MinimizedImage) -> usize
@@ -82,19 +101,22 @@ fn gain_map_len(image: MinimizedImage) -> usize
     ensures { (result ≡ if_there_len (has_gain_map_item image) (gain_map_lens image)) × (result ≤ 4164) }
 {
     if has_gain_map_item(image) {
-        gain_map_config(image).len + pixi_len(image.gain_map.chroma) + 47
+        config_slot_len(gain_map_config(image))
+            + ISPE_LEN
+            + pixi_len(image.gain_map.chroma)
+            + NCLX_LEN
     } else {
-        32
+        4 * FREE_LEN
     }
 }
 
 fn tmap_nclx_slot_len(cicp: Option<TmapCicp>, icc: Chunk) -> usize
     ensures { (result ≡ tmap_nclx_slot_len cicp icc) × (result ≤ 19) }
 {
-    if cicp.is_some() || icc.is_none() {
-        19
+    if has_tmap_nclx(cicp, icc) {
+        NCLX_LEN
     } else {
-        8
+        FREE_LEN
     }
 }
 
@@ -103,11 +125,11 @@ fn tmap_len(image: MinimizedImage) -> usize
     ensures { (result ≡ if_there_len image.has_gain_map (tmap_lens image)) × (result ≤ 1048627) }
 {
     if image.has_gain_map {
-        tmap_nclx_slot_len(image.gain_map.tmap_cicp, image.gain_map.tmap_icc)
+        ISPE_LEN
+            + tmap_nclx_slot_len(image.gain_map.tmap_cicp, image.gain_map.tmap_icc)
             + prof_slot_len(image.gain_map.tmap_icc)
-            + 20
     } else {
-        24
+        3 * FREE_LEN
     }
 }
 
@@ -117,7 +139,7 @@ fn tmap_hdr_len(image: MinimizedImage) -> usize
     if image.has_gain_map {
         hdr_len(image.gain_map.tmap_hdr)
     } else {
-        48
+        6 * FREE_LEN
     }
 }
 
@@ -132,26 +154,40 @@ fn tone_map_len(image: MinimizedImage) -> usize
     requires { Bounded image }
     ensures { (result ≡ tone_map_len image) × (result ≤ 1052968) }
 {
-    gain_map_len(image) + tmap_len(image) + tmap_hdr_len(image) + 24
+    gain_map_len(image) + tmap_len(image) + tmap_hdr_len(image) + UNUSED_AT_END * FREE_LEN
 }
 
-fn row_len_if(there: bool, used: [bool; 33], xs: &[u8]) -> usize
-    requires { length xs.now ≤ 255 }
-    ensures { (result ≡ row_if_len there used xs.now) × (result ≤ 258) }
+fn row_len(used: UsedSlots, row: &[u8]) -> usize
+    requires { length row.now ≤ 255 }
+    ensures { (result ≡ row_len used.0 row.now) × (result ≤ 258) }
 {
-    if there { 3 + kept_len(used, xs) } else { 0 }
+    ROW_HEAD_LEN + used.count(row)
 }
 
+fn row_if_len(there: bool, used: UsedSlots, row: &[u8]) -> usize
+    requires { length row.now ≤ 255 }
+    ensures { (result ≡ row_if_len there used.0 row.now) × (result ≤ 258) }
+{
+    if there { row_len(used, row) } else { 0 }
+}
+
+#[tactic(auto, using(crate::proofs::Laws::rows))]
+fn ipma_body_len(image: MinimizedImage, used: UsedSlots) -> usize
+    ensures { result ≡ ipma_body_len image used.0 }
+{
+    // Version and flags, and the number of rows, come first.
+    8 + row_len(used, &MAIN_ROW.associations)
+        + row_if_len(has_alpha_item(image), used, &ALPHA_ROW.associations)
+        + row_if_len(image.has_gain_map, used, &TMAP_ROW.associations)
+        + row_if_len(has_gain_map_item(image), used, &GAIN_MAP_ROW.associations)
+}
+
+#[tactic(auto, using(crate::proofs::Laws::ipma_bounds))]
 fn ipma_len(image: MinimizedImage) -> usize
     requires { Bounded image }
     ensures { (result ≡ ipma_len image) × (result ≤ 62) }
 {
-    let used = used_slots(image);
-    let main = kept_len(used, &MAIN_ROW);
-    let alpha = row_len_if(has_alpha_item(image), used, &ALPHA_ROW);
-    let tmap = row_len_if(image.has_gain_map, used, &TMAP_ROW);
-    let gain = row_len_if(has_gain_map_item(image), used, &GAIN_MAP_ROW);
-    main + alpha + tmap + gain + 19
+    BOX_HEADER_LEN + ipma_body_len(image, used_slots(image))
 }
 
 // The length that `put_iprp` writes.
@@ -160,5 +196,6 @@ pub fn iprp_len(image: MinimizedImage) -> usize
     ensures value { result ≡ iprp_len image }
     ensures upper_bound { result ≤ 2110144 }
 {
-    picture_len(image) + tone_map_len(image) + ipma_len(image) + 16
+    let ipco_len = BOX_HEADER_LEN + picture_len(image) + tone_map_len(image);
+    BOX_HEADER_LEN + ipco_len + ipma_len(image)
 }

@@ -1,28 +1,35 @@
 // One slot of 'ipco': a property's box, or an empty 'free'.
-ghost use Rattle.std.specs.Prelude.{◌||◌, not, is_some, ◌+◌, ◌*◌, ◌≤◌, ◌<◌, ltb, length, replicate};
+ghost use Rattle.std.specs.Prelude.{◌≡◌, ◌||◌, not, is_some, ◌+◌, ◌*◌, ◌≤◌, ◌<◌, ltb, length, replicate};
 ghost use Rattle.octets.specs.Overwrite.{Wrote};
 ghost use Rattle.mini.specs.Same.{chunk_len, span_bytes};
-ghost use Rattle.properties.specs.HdrBoxes.{hdr_box, hdr_box_len};
 ghost use Rattle.properties.specs.Property.{codec_config, turn_box};
-ghost use Rattle.slots.specs.Lengths.{only_if_len, config_slot_len, prof_slot_len, turn_slot_len, tmap_nclx_slot_len};
+ghost use Rattle.slots.specs.HdrSlots.{hdr_slot, hdr_slot_len};
+ghost use Rattle.slots.specs.Lengths.{config_slot_len, prof_slot_len, turn_slot_len, tmap_nclx_slot_len};
 ghost use Rattle.slots.specs.Slots.{none, free, slot_bytes, only_if, prof_slot, turn_slot, tmap_nclx_slot, slots_bytes};
 ghost use Rattle.slots.specs.Sound.{SpanPlaced, ChunkPlaced};
 
 use boxes::{FourCc, put_box_header};
 use mini::{Chunk, Cicp, Span, TmapCicp};
+use octets::part;
 use properties::hdr_boxes::HdrBox;
 use properties::property::{put_codec_config, put_nclx, put_prof, put_turn};
 
 const FREE: FourCc = 0x66726565;
 
+// How many bytes an unused slot takes.
+pub const FREE_LEN: usize = 8;
+
 // The tone map's colour where it is not told.
 const SRGB: TmapCicp = TmapCicp {
-    primaries: 1,
-    transfer: 13,
-    matrix: 6,
+    cicp: Cicp {
+        primaries: 1,
+        transfer: 13,
+        matrix: 6,
+    },
     full_range: true,
 };
 
+#[tactic(auto, using(crate::proofs::Laws::empty), unfolding(crate::specs::Slots::free, boxes::specs::Boxed::boxed))]
 pub fn put_free(out: &mut [u8], at: usize) -> usize
     requires { at + 8 ≤ length out.old }
     ensures { Wrote out.old at 8 free out.new result }
@@ -31,6 +38,7 @@ pub fn put_free(out: &mut [u8], at: usize) -> usize
 }
 
 // So many unused slots.
+#[tactic(auto, using(crate::proofs::Laws::unused_writes))]
 pub fn put_unused(out: &mut [u8], at: usize, n: usize) -> usize
     requires { at + 8 * n ≤ length out.old }
     ensures { Wrote out.old at (8 * n) (slots_bytes (replicate n none)) out.new result }
@@ -43,6 +51,7 @@ pub fn put_unused(out: &mut [u8], at: usize, n: usize) -> usize
 }
 
 // A codec configuration; none where it is empty.
+#[tactic(auto, unfolding(octets::specs::Part::part_of))]
 pub fn put_config_slot(
     out: &mut [u8],
     at: usize,
@@ -56,20 +65,19 @@ pub fn put_config_slot(
     if config.len == 0 {
         return put_free(out, at);
     }
-    let end = config.at + config.len;
-    put_codec_config(out, at, box_type, &source[config.at..end])
+    put_codec_config(out, at, box_type, part(source, config))
 }
 
 // An ICC profile.
-pub fn put_prof_slot(out: &mut [u8], cursor: usize, icc: Chunk, source: &[u8]) -> usize
-    requires { (cursor + prof_slot_len icc ≤ length out.old) × (ChunkPlaced icc source.now × (chunk_len icc ≤ 1048576)) }
-    ensures { Wrote out.old cursor (prof_slot_len icc) (slot_bytes (prof_slot icc source.now)) out.new result }
+#[tactic(auto, unfolding(octets::specs::Part::part_of))]
+pub fn put_prof_slot(out: &mut [u8], at: usize, icc: Chunk, source: &[u8]) -> usize
+    requires { (at + prof_slot_len icc ≤ length out.old) × (ChunkPlaced icc source.now × (chunk_len icc ≤ 1048576)) }
+    ensures { Wrote out.old at (prof_slot_len icc) (slot_bytes (prof_slot icc source.now)) out.new result }
 {
-    let Some(Span { at, len }) = icc else {
-        return put_free(out, cursor);
-    };
-    let end = at + len;
-    put_prof(out, cursor, &source[at..end])
+    match icc {
+        Some(icc) => put_prof(out, at, part(source, icc)),
+        None => put_free(out, at),
+    }
 }
 
 // 'irot' or 'imir'.
@@ -83,40 +91,32 @@ pub fn put_turn_slot(out: &mut [u8], at: usize, box_type: FourCc, turn: Option<u
     }
 }
 
-// The tone map's colour, told or sRGB; none where it is not told and there is a profile.
+// Whether the tone map has a colour slot: its colour is told, or there is no profile.
+pub fn has_tmap_nclx(cicp: Option<TmapCicp>, icc: Chunk) -> bool
+    ensures { result ≡ (is_some cicp || not (is_some icc)) }
+{
+    cicp.is_some() || icc.is_none()
+}
+
+// The tone map's colour, told or sRGB.
 pub fn put_tmap_nclx_slot(out: &mut [u8], at: usize, cicp: Option<TmapCicp>, icc: Chunk) -> usize
     requires { at + tmap_nclx_slot_len cicp icc ≤ length out.old }
     ensures { Wrote out.old at (tmap_nclx_slot_len cicp icc) (slot_bytes (tmap_nclx_slot cicp icc)) out.new result }
 {
-    if cicp.is_none() && icc.is_some() {
+    if !has_tmap_nclx(cicp, icc) {
         return put_free(out, at);
     }
-    let TmapCicp {
-        primaries,
-        transfer,
-        matrix,
-        full_range,
-    } = cicp.unwrap_or(SRGB);
-    put_nclx(
-        out,
-        at,
-        Cicp {
-            primaries,
-            transfer,
-            matrix,
-        },
-        full_range,
-    )
+    let TmapCicp { cicp, full_range } = cicp.unwrap_or(SRGB);
+    put_nclx(out, at, cicp, full_range)
 }
 
-// An HDR box that the record holds.
-pub fn put_hdr_slot(out: &mut [u8], at: usize, used: bool, body: HdrBox) -> usize
-    requires { at + only_if_len used (hdr_box_len body) ≤ length out.old }
-    ensures { Wrote out.old at (only_if_len used (hdr_box_len body)) (slot_bytes (only_if used (hdr_box body))) out.new result }
+// An HDR box, where the record holds it.
+pub fn put_hdr_slot(out: &mut [u8], at: usize, held: Option<HdrBox>) -> usize
+    requires { at + hdr_slot_len held ≤ length out.old }
+    ensures { Wrote out.old at (hdr_slot_len held) (slot_bytes (hdr_slot held)) out.new result }
 {
-    if used {
-        body.put(out, at)
-    } else {
-        put_free(out, at)
+    match held {
+        Some(held) => held.put(out, at),
+        None => put_free(out, at),
     }
 }

@@ -7,11 +7,8 @@ mod limits;
 use std::io;
 
 fn main(rt: HostRuntime) -> io::Result<()> {
-    boxes_rs::sizes(&rt)?;
-    boxes_rs::largesizes(&rt)?;
-    boxes_rs::extended_types(&rt)?;
-    boxes_rs::starts(&rt)?;
-    boxes_rs::hand_out(&rt)?;
+    boxes_rs::headers(&rt)?;
+    boxes_rs::payloads(&rt)?;
     boxes_rs::write(&rt)?;
     limits::dimensions(&rt)?;
     limits::metadata(&rt)?;

@@ -13,12 +13,12 @@ use Rattle.mini.specs.Payload.{header_bits, chunks_start, header_padded}
 use Rattle.mini.specs.Same.{chunk_len, chunk_bytes, chunks_of}
 use Rattle.mini.specs.Syntax.{header}
 use Rattle.mini.specs.Write.{header_of, payload_of, payload_with, writable}
-use Rattle.mini.specs.declared.Span.{Span}
+use Rattle.octets.specs.declared.Span.{Span}
 use Rattle.mini.specs.declared.Header.{Header}
 use Rattle.mini.specs.declared.MinimizedImage.{MinimizedImage}
 use Rattle.writer.specs.Laid.{Laid}
 use Rattle.writer.specs.ToBox.{box_of, refused, written, HeaderHeld}
-use Rattle.writer.specs.Outcome.{Written}
+use Rattle.refusals.specs.Outcome.{Written}
 
 take-le : (n : ℕ) (l : List ℕ) → length (take n l) ≤ n
 take-le n l = simp length-take (omega arith)

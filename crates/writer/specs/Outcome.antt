@@ -1,13 +1,9 @@
 -- What writing answers, as the number of a refusal and a length.
-use Rattle.std.specs.Prelude.{◌≡◌, ℕ, Result, Ok, Err}
-use Rattle.std.proofs.Common.{arith}
+use Rattle.std.specs.Prelude.{◌≡◌, ℕ, Result}
+use Rattle.std.proofs.Common.{arith, rules}
+use Rattle.refusals.specs.Outcome.{Written, outcome}
 use Rattle.writer.specs.declared.WriteError.{WriteError}
 use Rattle.writer.specs.declared.WriteError.TheVariants.{Misplaced, Unwritable, TooShort}
-
--- 0 or the refusal's number, and the length written; the length needed with 16, else 0
-pub record Written : Type 0 where
-  pub refusal : ℕ
-  pub len : ℕ
 
 -- the number of each refusal
 abbrev pub number : WriteError → ℕ
@@ -17,16 +13,12 @@ number (TooShort needed) = 16
 
 -- none is 0
 pub number_not_zero : (e : WriteError) → number e ≡ 0 → ⊥
-number_not_zero Misplaced z = omega arith
-number_not_zero Unwritable z = omega arith
-number_not_zero (TooShort needed) z = omega arith
+number_not_zero e = search (rules, arith)
 
 -- the length that comes with it
 abbrev pub needed_in : WriteError → ℕ
-needed_in Misplaced = 0
-needed_in Unwritable = 0
 needed_in (TooShort needed) = needed
+needed_in _ = 0
 
 abbrev pub outcome_of : Result ℕ WriteError → Written
-outcome_of (Ok len) = record { refusal = 0; len = len }
-outcome_of (Err e) = record { refusal = number e; len = needed_in e }
+outcome_of = outcome number needed_in

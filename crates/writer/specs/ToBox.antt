@@ -1,7 +1,8 @@
 -- Writing a record as a 'mini' box: document 01, 'src/mini.rs, writing' and 'What goes back when it cannot be done', 10, 11 and 16.
-use Rattle.std.specs.Prelude.{◌≡◌, ℕ, ◌+◌, ◌-◌, ◌*◌, ◌%◌, ◌^◌, ◌≤◌, Bool, true, false, cond, not, ◌&&◌, T, List, [], ◌++◌, length, take, nat_lt, refl}
+use Rattle.std.specs.Prelude.{◌≡◌, ℕ, ◌+◌, ◌-◌, ◌*◌, ◌%◌, ◌^◌, ◌≤◌, Bool, true, false, cond, not, ◌&&◌, T, List, [], ◌++◌, length, take, nat_lt, refl, Option, is_some, unwrap_or}
 use Rattle.std.proofs.Math.Path.{sym}
-use Rattle.std.proofs.Common.{ap, ap₂, ◌∙◌, subst, arith, pow_pos}
+use Rattle.std.proofs.Common.{ap, ap₂, ◌∙◌, subst, arith, pow_pos, length-take-le, take_all, le_refl}
+use Rattle.std.specs.Bool.{then_some}
 use borrow.Author.Tests.{lt-ltb, not-true, not-false}
 use Rattle.octets.specs.Overwrite.{overwrite}
 use Rattle.octets.specs.OverwriteLaws as octets-laws
@@ -20,7 +21,7 @@ use Rattle.mini.specs.Syntax.{header, trailing_bits}
 use Rattle.mini.specs.Write.{header_of, payload_of, writable, not_empty}
 use Rattle.mini.specs.declared.Header.{Header}
 use Rattle.mini.specs.declared.MinimizedImage.{MinimizedImage}
-use Rattle.writer.specs.Outcome.{Written}
+use Rattle.refusals.specs.Outcome.{Written}
 
 -- the box: type 'mini', and the payload
 unfoldable pub box_of : MinimizedImage → List ℕ → List ℕ
@@ -112,6 +113,19 @@ header_of_lem i h ea eg ef et =
       ok = et ∙ ap₂ (λ (x y : Bool). x && y) h.ok (ef ∙ ap₂ (λ (x y : Bool). x && y) ea eg);
       held = λ w. h.held ((header.dec (header_of i)).0 (and_split (header.good (header_of i)) _ w).0);
     }
+
+-- the length, told only where one does
+pub header_told : (i : MinimizedImage) {bytes : List ℕ} {len : ℕ} (t : Bool) {r : Option ℕ} → HeaderOf i bytes len t → r ≡ then_some t len
+    → HeaderOf i bytes (unwrap_or r 0) (is_some r)
+header_told i {bytes} {len} true h e = subst (λ (r : Option ℕ). HeaderOf i bytes (unwrap_or r 0) (is_some r)) (sym e) h
+header_told i {bytes} false h e =
+    subst (λ (r : Option ℕ). HeaderOf i bytes (unwrap_or r 0) (is_some r)) (sym e) (record { ok = h.ok; held = λ w. absurd (subst T (sym h.ok) w) })
+
+-- the header as a part of the buffer
+pub header_part : {h : Header} {bytes : List ℕ} {len : ℕ} → HeaderHeld h bytes len → length bytes ≡ 256 → HeaderHeld h (take len bytes) (length (take len bytes))
+header_part {bytes = bytes} {len} x w =
+    let e : length (take len bytes) ≡ len = length-take-le len bytes (omega (arith, x.small)) in
+    record { end = e ∙ x.end; small = omega (arith, e, x.small); there = take_all _ (take len bytes) (le_refl _) ∙ x.there }
 
 -- ---- the ways through the answer, by what the code tests: that the record is not well placed, that it is not writable
 module _ (i : MinimizedImage) (s o : List ℕ) {p : Bool} (placed : p ≡ well_placed i s) where

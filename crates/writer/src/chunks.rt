@@ -6,25 +6,29 @@ ghost use Rattle.writer.specs.Laid.{Laid};
 
 use mini::{Chunk, MinimizedImage, Span};
 
-// How many bytes a part of `len` bytes has in a source of `total`.
-fn held(total: usize, at: usize, len: usize) -> usize
-    ensures { result ≡ min len (total - at) }
+// How many bytes of a span a source of `total` bytes has.
+fn held(total: usize, x: Span) -> usize
+    ensures { result ≡ min x.len (total - x.at) }
 {
-    len.min(total.saturating_sub(at))
+    x.len.min(total.saturating_sub(x.at))
 }
 
-// The bytes of a span where there is room for them; and the place after them.
+// The bytes of a span that the source has, where there is room for them; and the place after them.
+#[tactic(auto, using(crate::specs::Laid::laid_skip, crate::specs::Laid::laid_copy, crate::specs::Laid::part_short))]
 fn put_span(out: &mut [u8], at: usize, source: &[u8], x: Span) -> usize
     ensures { Laid out.old at (span_bytes x source.now) out.new result }
 {
-    let n = held(source.len(), x.at, x.len);
-    if at <= out.len() && n <= out.len() - at {
-        octets::copy_in(out, at, octets::part(source, x.at, n));
+    let len = held(source.len(), x);
+    let end = at.wrapping_add(len);
+    if !(Span { at, len }).is_within(out.len()) {
+        return end;
     }
-    at.wrapping_add(n)
+    octets::copy_in(out, at, octets::part(source, Span { len, ..x }));
+    end
 }
 
-// An absent chunk is passed over. As in the expander, but for what a span leaves where there is no room (`Laid`).
+// An absent chunk is passed over.
+#[tactic(auto, using(crate::specs::Laid::none))]
 fn put_chunk(out: &mut [u8], at: usize, source: &[u8], c: Chunk) -> usize
     ensures { Laid out.old at (chunk_bytes c source.now) out.new result }
 {

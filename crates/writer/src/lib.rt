@@ -1,9 +1,10 @@
 // Writing a record as a 'mini' box: `MinimizedImage::to_box` of mini.rs.
 #![tactic(auto)]
 
-ghost use Rattle.std.specs.Prelude.{◌≡◌, T};
+ghost use Rattle.std.specs.Prelude.{◌≡◌, T, is_some, length, unwrap_or};
 ghost use Rattle.mini.specs.Write.{header_of, writable};
-ghost use Rattle.writer.specs.Outcome.{number, needed_in, outcome_of};
+ghost use Rattle.writer.specs.Outcome.{number, number_not_zero, needed_in, outcome_of};
+ghost use Rattle.writer.specs.Needed.{Needed};
 ghost use Rattle.writer.specs.ToBox.{HeaderHeld, HeaderOf, written, answer};
 
 pub mod checks;
@@ -14,6 +15,7 @@ use boxes::FourCc;
 use header_writer::header::put_header;
 use mini::MinimizedImage;
 use record_header::{header_of, not_empty};
+use refusals::Refusal;
 
 const MINI: FourCc = 0x6D696E69;
 
@@ -25,11 +27,14 @@ pub enum WriteError {
     TooShort { needed: usize },
 }
 
-impl WriteError {
-    // The number of the refusal.
-    pub fn number(self) -> u8
-        ensures { result ≡ number self }
-    {
+impl Refusal for WriteError {
+    ghost number = { number };
+
+    ghost needed = { needed_in };
+
+    ghost not_zero = { number_not_zero };
+
+    fn number(self) -> u8 {
         match self {
             WriteError::Misplaced => 10,
             WriteError::Unwritable => 11,
@@ -37,10 +42,7 @@ impl WriteError {
         }
     }
 
-    // The length that comes with it: the one needed, else 0.
-    pub fn needed(self) -> usize
-        ensures { result ≡ needed_in self }
-    {
+    fn needed(self) -> usize {
         match self {
             WriteError::TooShort { needed } => needed,
             _ => 0,
@@ -48,51 +50,48 @@ impl WriteError {
     }
 }
 
-// A record's header: its bytes, how many they are, and whether a payload holds the record at all (refusal 11). A length beside a buffer,
-// since the memory is fixed.
-#[derive(Clone, Copy)]
-pub struct HeaderBytes {
-    pub bytes: [u8; 256],
-    pub len: usize,
-    pub writable: bool,
-}
-
-fn header_bytes(i: MinimizedImage) -> HeaderBytes
-    ensures { HeaderOf i result.bytes result.len result.writable }
+// A record's header, from the buffer's first byte on: its length, or None where no payload holds the record (refusal 11). The buffer is the
+// caller's own, of a fixed size since there is no heap: no header is longer than 251 bytes.
+fn put_header_bytes(out: &mut [u8; 256], i: MinimizedImage) -> Option<usize>
+    ensures { HeaderOf i out.new (unwrap_or result 0) (is_some result) }
 {
-    let mut bytes = [0u8; 256];
-    let w = put_header(BitWriter::new(0), &mut bytes, header_of(i)).align(&mut bytes);
+    let w = put_header(BitWriter::new(0), out, header_of(i)).align(out);
     let full = not_empty(i.alpha_codec_config) & not_empty(i.gain_map.codec_config);
-    HeaderBytes {
-        bytes,
-        len: w.at.0,
-        writable: w.fits & full,
-    }
+    (w.fits & full).then_some(w.at.0)
 }
 
 // Refusal 11's opposite, for callers that write no box.
 pub fn is_writable(image: MinimizedImage) -> bool
     ensures { result ≡ writable image }
 {
-    header_bytes(image).writable
+    put_header_bytes(&mut [0; 256], image).is_some()
 }
 
-// The box of a record that can be written, and its length. The chunks laid over no output tell the length.
+// The length of the box: the chunks laid over no output tell it.
+fn box_len(i: MinimizedImage, source: &[u8], header: &[u8]) -> usize
+    requires writable { T (writable i) }
+    requires held { HeaderHeld (header_of i) header.now (length header.now) }
+    ensures { Needed i source.now result }
+{
+    chunks::put_chunks(&mut [], 8 + header.len(), source, i)
+}
+
+// The box of a record that can be written, and its length.
 fn write_box(
     i: MinimizedImage,
     source: &[u8],
     out: &mut [u8],
-    h: HeaderBytes,
+    header: &[u8],
 ) -> Result<usize, WriteError>
-    requires { T (writable i) × HeaderHeld (header_of i) h.bytes h.len }
+    requires writable { T (writable i) }
+    requires held { HeaderHeld (header_of i) header.now (length header.now) }
     ensures { (outcome_of result, out.new) ≡ written i source.now out.old }
 {
-    let mut none = [0u8; 1];
-    let needed = chunks::put_chunks(&mut none, 8 + h.len, source, i);
+    let needed = box_len(i, source, header);
     if out.len() < needed {
         return Err(WriteError::TooShort { needed });
     }
-    let at = octets::copy_in(out, 8, &h.bytes[0..h.len]);
+    let at = octets::copy_in(out, 8, header);
     chunks::put_chunks(out, at, source, i);
     boxes::put_box_header(out, 0, needed - 8, MINI);
     Ok(needed)
@@ -105,9 +104,9 @@ pub fn to_box(image: MinimizedImage, source: &[u8], out: &mut [u8]) -> Result<us
     if !checks::well_placed(image, source) {
         return Err(WriteError::Misplaced);
     }
-    let h = header_bytes(image);
-    if !h.writable {
+    let mut header = [0; 256];
+    let Some(len) = put_header_bytes(&mut header, image) else {
         return Err(WriteError::Unwritable);
-    }
-    write_box(image, source, out, h)
+    };
+    write_box(image, source, out, &header[..len])
 }

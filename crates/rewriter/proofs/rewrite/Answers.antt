@@ -3,7 +3,7 @@ use Rattle.std.proofs.Common.{Err, Ok, Result, ap, refl, sym, ℕ, ◌∙◌, �
 use Rattle.std.specs.Result.{IsErrAnd}
 use Rattle.bits.specs.ReadError.{number_not_zero}
 use Rattle.mini.specs.Read.{read_mini, Reading}
-use Rattle.writer.specs.Outcome.{Written}
+use Rattle.refusals.specs.Outcome.{Written}
 use Rattle.writer.specs.ToBox.{answer, refused}
 use Rattle.rewriter.specs.Outcome.{number, needed_in, outcome_of}
 use Rattle.rewriter.specs.declared.RewriteError.{RewriteError}
@@ -30,7 +30,7 @@ returns-clause-answer c =
     let o = c.args.out.now in
     let e = c.in_ok-image.ensures in
     let z : (read_mini p).refusal ≡ 0 = sym (ap (λ (r : Reading). r.refusal) e) in
-    c.in_ok-len.ensures ∙ ap (λ (r : Reading). answer r.image p o) e ∙ read_then_written p o z
+    c.in_ok-to_box.ensures ∙ ap (λ (r : Reading). answer r.image p o) e ∙ read_then_written p o z
 
 pub returns-clause-written_back : goal.returns-clause-written_back
 returns-clause-written_back c = (promised c.args.payload.now c.args.out.now (returns-clause-answer c)).1.0 refl
@@ -38,16 +38,16 @@ returns-clause-written_back c = (promised c.args.payload.now c.args.out.now (ret
 pub returns-clause-bounds : goal.returns-clause-bounds
 returns-clause-bounds c = (promised c.args.payload.now c.args.out.now (returns-clause-answer c)).1.1
 
-pub returns-in_err-len-clause-answer : goal.returns-in_err-len-clause-answer
-returns-in_err-len-clause-answer c =
+pub returns-in_err-to_box-clause-answer : goal.returns-in_err-to_box-clause-answer
+returns-in_err-to_box-clause-answer c =
     let p = c.args.payload.now in
     let o = c.args.out.now in
     let e = c.in_ok-image.ensures in
     let z : (read_mini p).refusal ≡ 0 = sym (ap (λ (r : Reading). r.refusal) e) in
-    ap (λ (w : Written). (w, c.to_box.new.out)) (handed_on _ _ c.from_residual-in_err-len.ensures.1)
-    ∙ c.in_err-len.ensures
+    ap (λ (w : Written). (w, c.to_box.new.out)) (handed_on _ _ c.from_residual-in_err-to_box.ensures.1)
+    ∙ c.in_err-to_box.ensures
     ∙ ap (λ (r : Reading). answer r.image p o) e
     ∙ read_then_written p o z
 
-pub returns-in_err-len-clause-bounds : goal.returns-in_err-len-clause-bounds
-returns-in_err-len-clause-bounds c = (promised c.args.payload.now c.args.out.now (returns-in_err-len-clause-answer c)).1.1
+pub returns-in_err-to_box-clause-bounds : goal.returns-in_err-to_box-clause-bounds
+returns-in_err-to_box-clause-bounds c = (promised c.args.payload.now c.args.out.now (returns-in_err-to_box-clause-answer c)).1.1

@@ -1,5 +1,4 @@
--- `bit_writer::BitWriter::feed` meets its contract. The invariant: what is still to be fed leads to the same end. Assumes nothing.
-use Rattle.std.proofs.Common.{Bool, List, ap, arith, ◌+◌, ◌%◌, ◌^◌, length, mod-eq_of_lt, refl, rules, sym, ℕ, ◌-◌, ◌<◌, ◌∙◌}
+use Rattle.std.proofs.Common.{Bool, List, ap, arith, ◌+◌, ◌++◌, ◌%◌, ◌^◌, length, mod-eq_of_lt, refl, rules, sym, ℕ, ◌-◌, ◌<◌, ◌∙◌}
 use Rattle.bits.specs.Bit.{bits_n, length-bits_n}
 use Rattle.bit_writer.specs.Writer.{feed, waiting}
 use Rattle.bit_writer.specs.WriterLaws.{feed_octet, feed_few}
@@ -28,7 +27,8 @@ returns c =
     let short : length (bits_n c.loop-m.m all) < 8 = omega (arith, length-bits_n c.loop-m.m all) in record {
       fed = record {
         eq =
-            ap (λ (x : List Bool). feed a.out.now a.self.at.0 x) (sym c.join-all.ensures)
+            ap (λ (x : List Bool). feed a.out.now a.self.at.0 x)
+            (ap (λ (j : ℕ). bits_n j a.self.bits ++ bits_n a.n a.v) (sym c.bit-j.ensures) ∙ sym c.join-all.ensures)
             ∙ sym c.loop-m.invariant.2
             ∙ feed_few (bits_n c.loop-m.m all) c.loop-m.out c.loop-m.k short
             ∙ ap (λ (j : ℕ). (c.loop-m.out, (c.loop-m.k, bits_n j all))) (sym (mod-eq_of_lt few));

@@ -1,4 +1,3 @@
--- `bit_writer::BitWriter::put_offset` meets its contract. Assumes nothing.
 use Rattle.bit_writer.specs.WriterLaws.{puts_view, puts_as}
 use Rattle.bit_writer.proofs.BitWriter.put_offset.Goals as goal
 

@@ -1,4 +1,4 @@
-use Rattle.std.proofs.Common.{arith, ◌%◌, ◌-◌}
+use Rattle.std.proofs.Common.{arith}
 use Rattle.bits.specs.Run.{state}
 use Rattle.mini.specs.Read.{bits_to_boundary}
 use Rattle.header_reader.specs.Rules.{run_trailing}
@@ -6,4 +6,4 @@ use Rattle.header_reader.proofs.sizes.read_trailing_bits.Goals as goal
 
 pub returns : goal.returns
 unfolding state bits_to_boundary
-returns c = run_trailing ((8 - c.args.b.at.1 % 8) % 8) (omega arith) c.read-padding.ensures.run c.test.ensures
+returns c = run_trailing c.to_boundary.result (omega arith) c.read-padding.ensures.run c.test.ensures

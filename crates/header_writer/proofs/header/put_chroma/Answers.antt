@@ -1,4 +1,3 @@
--- `header_writer::header::put_chroma` meets its contract. Assumes nothing.
 use Rattle.bit_writer.specs.WriterLaws.{puts_view, puts_seq}
 use Rattle.mini.specs.Syntax.{chroma}
 use Rattle.header_writer.proofs.header.put_chroma.Goals as goal

@@ -1,4 +1,3 @@
--- `header_writer::header::put_dimensions` meets its contract. Assumes nothing.
 use Rattle.bit_writer.specs.WriterLaws.{puts_renamed, puts_seq}
 use Rattle.mini.specs.Syntax.{dimensions}
 use Rattle.header_writer.proofs.header.put_dimensions.Goals as goal

@@ -1,4 +1,3 @@
--- `header_writer::header::put_flags` meets its contract. Assumes nothing.
 use Rattle.bit_writer.specs.WriterLaws.{puts_renamed, puts_next, puts_exactly, puts_seq}
 use Rattle.mini.specs.Syntax.{flags}
 use Rattle.header_writer.proofs.header.put_flags.Goals as goal

@@ -1,4 +1,3 @@
--- `header_writer::header::put_float_format` meets its contract. Assumes nothing.
 use Rattle.std.proofs.Common.{ap, ltb, ℕ, ◌∙◌}
 use Rattle.bits.specs.Format.{view}
 use Rattle.bit_writer.specs.WriterLaws.{puts_as, tested_as, put_of, puts_of, tested}

@@ -1,18 +1,15 @@
--- `header_writer::header::put_header` meets its contract. Assumes nothing.
-use Rattle.bits.specs.Format.{◌>>=◌, view}
-use Rattle.bit_writer.specs.WriterLaws.{put_of, puts_of, then, whole}
+use Rattle.bit_writer.specs.WriterLaws.{puts_renamed, puts_seq}
 use Rattle.mini.specs.Syntax.{header}
 use Rattle.header_writer.proofs.header.put_header.Goals as goal
 
 pub returns : goal.returns
-unfolding header ◌>>=◌ view
+unfolding header
 returns c =
-    puts_of _ _
-    (whole
-    (then (put_of c.put_flags-w.ensures)
-    (then (put_of c.put_dimensions-w.ensures)
-    (then (put_of c.put_main_format-w.ensures)
-    (then (put_of c.put_gain_map_header-w.ensures)
-    (then (put_of c.put_hdr_boxes-w.ensures)
-    (then (put_of c.put_hdr_boxes-w-2.ensures)
-    (put_of c.put_sizes.ensures))))))))
+    puts_renamed _ _ _ _ _
+    (puts_seq _ _ c.put_flags-w.ensures
+    (puts_seq _ _ c.put_dimensions-w.ensures
+    (puts_seq _ _ c.put_main_format-w.ensures
+    (puts_seq _ _ c.put_gain_map_header-w.ensures
+    (puts_seq _ _ c.put_hdr_boxes-w.ensures
+    (puts_seq _ _ c.put_hdr_boxes-w-2.ensures
+    c.put_sizes.ensures))))))

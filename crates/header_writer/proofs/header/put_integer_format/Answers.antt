@@ -1,4 +1,3 @@
--- `header_writer::header::put_integer_format` meets its contract. Assumes nothing.
 use Rattle.std.proofs.Common.{ap, eqb, not, ℕ, ◌∙◌}
 use Rattle.bit_writer.specs.WriterLaws.{puts_view, puts_as, puts_seq, tested_as}
 use Rattle.mini.specs.Syntax.{integer_format}

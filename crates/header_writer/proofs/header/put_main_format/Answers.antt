@@ -1,4 +1,3 @@
--- `header_writer::header::put_main_format` meets its contract. Assumes nothing.
 use Rattle.bit_writer.specs.WriterLaws.{puts_renamed, puts_seq}
 use Rattle.mini.specs.Syntax.{main_format}
 use Rattle.header_writer.proofs.header.put_main_format.Goals as goal

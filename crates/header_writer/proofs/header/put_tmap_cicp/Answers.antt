@@ -1,16 +1,12 @@
--- `header_writer::header::put_tmap_cicp` meets its contract. Assumes nothing.
-use Rattle.bit_writer.specs.WriterLaws.{puts_on, puts_off, puts_view, puts_none, puts_as, puts_seq, tested_as}
+use Rattle.bit_writer.specs.WriterLaws.{puts_on, puts_view, puts_as, tested_as}
 use Rattle.mini.specs.Syntax.{tmap_cicp}
-use Rattle.header_writer.proofs.Optional.{tmap_cicp_or, not_of}
+use Rattle.header_writer.specs.Rules.{puts_cicp_then}
+use Rattle.mini.specs.Views.{tmap_cicp_from}
+use Rattle.header_writer.proofs.Optional.{or_blank}
 use Rattle.header_writer.proofs.header.put_tmap_cicp.Goals as goal
 
 pub returns-then-on : goal.returns-then-on
 unfolding tmap_cicp
 returns-then-on c =
     puts_on _ _ _ c.if-on.true
-    (puts_view _ _ _ _ _ _ (puts_as _ (tmap_cicp_or c.args.c c.unwrap_or-f.ensures) (puts_seq _ _ c.put.ensures (puts_seq _ _ c.put-then-on.ensures (puts_seq _ _ c.put-then-on-2.ensures c.flag.ensures)))) (tested_as c.is_some.ensures c.test.ensures))
-
-pub returns-else-on : goal.returns-else-on
-unfolding tmap_cicp
-returns-else-on c =
-    puts_off _ _ _ c.if-on.false (puts_none _ _ _ _ _ (tested_as (not_of _ _ c.is_none.ensures) c.test-else-on.ensures))
+    (puts_view _ _ _ _ _ _ (puts_as _ (or_blank tmap_cicp_from (λ x e. rw (e.0.0, e.0.1.0, e.0.1.1, e.1)) c.args.c c.unwrap_or_default-f.ensures) (puts_cicp_then c.put_cicp.ensures c.flag.ensures)) (tested_as c.is_some.ensures c.test.ensures))

@@ -6,14 +6,13 @@ use Rattle.outline.proofs.Rows.{row-more, rows-all}
 use Rattle.outline.proofs.chunks.put_entries.Goals as goal
 
 pub loop-number-init : goal.loop-number-init
-unfolding entries
 loop-number-init c = nothing _ _
 
 pub put_entry-at-requires : goal.put_entry-at-requires
 put_entry-at-requires c = omega (arith, c.loop-number.invariant.next)
 
 pub loop-number-preserved : goal.loop-number-preserved
-unfolding entries chunk_of
+unfolding chunk_of
 loop-number-preserved c =
     row-more (λ n. entry n (chunk_of c.args.i n)) c.args.order.now 0 (omega arith) c.loop-number.invariant
     (rw (c.given_chunks-chunks.ensures, c.from.ensures) at c.put_entry-at.ensures)

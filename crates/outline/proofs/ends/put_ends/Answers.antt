@@ -1,25 +1,25 @@
-use Rattle.std.proofs.Common.{ap, arith, map, sym}
-use Rattle.std.proofs.lemmas.List.{get_or-map}
+use Rattle.std.proofs.Common.{ap, arith, sym}
+use Rattle.std.proofs.lemmas.Simd.{map-map}
+use Rattle.mini.specs.Cut.{joined}
 use Rattle.octets.specs.BigEndian.{be}
 use Rattle.octets.specs.OverwriteLaws.{nothing, recast}
-use Rattle.outline.specs.Ends.{place, places, ends}
+use Rattle.outline.specs.Ends.{place, places}
 use Rattle.outline.specs.OutlineBytes.{place_bytes}
 use Rattle.outline.proofs.Rows.{row-more, rows-all}
 use Rattle.outline.proofs.ends.put_ends.Goals as goal
 
 pub loop-b-init : goal.loop-b-init
-unfolding place_bytes
 loop-b-init c = nothing _ _
 
 pub put_place-at-requires : goal.put_place-at-requires
 put_place-at-requires c = omega (arith, c.loop-b.invariant.next)
 
 pub loop-b-preserved : goal.loop-b-preserved
-unfolding place_bytes
 loop-b-preserved c =
-    row-more (be 8) (map place (ends c.args.e)) 0 (omega arith) c.loop-b.invariant
-    (recast c.put_place-at.ensures (ap (be 8) (sym (get_or-map place (ends c.args.e) c.loop-b.b-index _ _ (omega arith)))))
+    row-more (λ b. be 8 (place b)) c.args.ends.now _ (omega arith) c.loop-b.invariant c.put_place-at.ensures
 
 pub returns : goal.returns
 unfolding places place_bytes
-returns c = rows-all 8 _ (be 8) (map place (ends c.args.e)) (omega arith) (omega arith) c.loop-b.invariant
+returns c =
+    recast (rows-all 8 _ (λ b. be 8 (place b)) c.args.ends.now (omega arith) (omega arith) c.loop-b.invariant)
+    (ap joined (sym (map-map (be 8) place c.args.ends.now)))

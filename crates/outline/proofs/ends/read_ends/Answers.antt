@@ -1,4 +1,3 @@
--- `outline::ends::read_ends` meets its contract. Assumes nothing.
 use Rattle.std.proofs.Common.{ap, sym, ◌∙◌}
 use Rattle.outline.specs.Ends.{noted, header_parts, places, part_read, ends_of}
 use Rattle.outline.proofs.ends.read_ends.Goals as goal

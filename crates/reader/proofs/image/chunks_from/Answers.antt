@@ -7,23 +7,23 @@ use Rattle.mini.specs.declared.MinimizedImage.{MinimizedImage}
 use Rattle.reader.specs.Rules.{chunks_there, chunks_short}
 use Rattle.reader.proofs.image.chunks_from.Goals as goal
 
-pub returns-in_default : goal.returns-in_default
-returns-in_default c =
+pub returns-then-payload-at : goal.returns-then-payload-at
+returns-then-payload-at c =
     let a = c.args in
     let p = a.at.0 * 8 + a.at.1 in
     chunks_short a.payload.now a.h (clean p) refl (lt-leb (p / 8 + sum (stored_sizes a.h.sizes)) (length a.payload.now) (omega arith))
 
-pub returns-then-rest-over : goal.returns-then-rest-over
-returns-then-rest-over c =
+pub returns-then-payload-start : goal.returns-then-payload-start
+returns-then-payload-start c =
     let a = c.args in
     let p = a.at.0 * 8 + a.at.1 in
     chunks_short a.payload.now a.h (clean p) refl
-    (lt-leb (p / 8 + sum (stored_sizes a.h.sizes)) (length a.payload.now) (omega (arith, c.chunk_bytes.ensures)))
+    (lt-leb (p / 8 + sum (stored_sizes a.h.sizes)) (length a.payload.now) (omega (arith, c.chunks_len.ensures)))
 
 pub returns : goal.returns
 returns c =
     let a = c.args in
-    let at = a.at.0 + a.at.1 / 8 in
+    let at = c.byte-start.result in
     ap (λ (i : MinimizedImage). record { refusal = 0; image = i }) c.image_of.ensures
     ∙ chunks_there a.payload.now a.h (clean (a.at.0 * 8 + a.at.1)) at refl (omega arith)
-    (le-leb (at + sum (stored_sizes a.h.sizes)) (length a.payload.now) (omega (arith, c.chunk_bytes.ensures)))
+    (le-leb (at + sum (stored_sizes a.h.sizes)) (length a.payload.now) (omega (arith, c.chunks_len.ensures)))

@@ -4,6 +4,6 @@ use Rattle.slots.specs.Associations.{kept}
 use Rattle.slots.proofs.associations.put_kept.Given as goal
 
 -- as far as the loop has come
-abbrev pub invariant-loop-x : goal.invariant-loop-x
-invariant-loop-x l =
-    Wrote l.fn.out l.at (length (kept l.used (take l.x-index l.xs))) (kept l.used (take l.x-index l.xs)) l.out l.next
+abbrev pub invariant-loop-association : goal.invariant-loop-association
+invariant-loop-association l =
+    Wrote l.fn.out l.at (length (kept l.used.0 (take l.association-index l.associations))) (kept l.used.0 (take l.association-index l.associations)) l.out l.next

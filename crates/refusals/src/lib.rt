@@ -1,0 +1,22 @@
+// Why a call refuses, as callers outside see it: a number, and the length that the call needs where that is why (docs/ABI.md).
+#![tactic(auto)]
+
+ghost use Rattle.std.specs.Prelude.{◌≡◌, ℕ};
+
+// What each error type of these crates gives.
+pub trait Refusal: Copy {
+    // The number of each refusal (document 01).
+    ghost number: { Self → ℕ };
+
+    // The length that comes with it: the one needed, else 0.
+    ghost needed: { Self → ℕ } = { λ _. 0 };
+
+    fn number(self) -> u8
+        ensures { result ≡ number self };
+
+    fn needed(self) -> usize
+        ensures { result ≡ needed self };
+
+    // No refusal is 0, which stands for success.
+    ghost not_zero: { (e : Self) → number e ≡ 0 → ⊥ };
+}
