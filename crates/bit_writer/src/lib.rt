@@ -1,5 +1,5 @@
 // A writer of bits, high bit first: by a rule of the project the state goes in and comes back by value, so the output is lent to each
-// call. A byte past the end of the output is not stored. Once a value does not fit its field, the state says so.
+// call, here and in header_writer. A byte past the end of the output is not stored. Once a value does not fit its field, the state says so.
 #![tactic(auto)]
 
 ghost use Rattle.std.specs.Prelude.{◌≡◌, ◌+◌, ◌-◌, ◌%◌, ◌^◌, ◌≤◌, true, [], ◌++◌, length, slice_set};
@@ -18,7 +18,7 @@ pub struct BitWriter {
     pub fits: bool,
 }
 
-// A byte at its place. Past the end nothing is stored.
+// A byte at its place. Past the end nothing is stored. No `get_mut`: of a slice that it lent out only the length is known.
 #[tactic(auto, using(crate::specs::WriterLaws::storing))]
 fn store(out: &mut [u8], at: usize, x: u8)
     ensures { out.new ≡ slice_set out.old at x }
@@ -28,7 +28,8 @@ fn store(out: &mut [u8], at: usize, x: u8)
     }
 }
 
-// 2 ^ n.
+// 2 ^ n, apart: over the bare shift the goal of `join` does not close. `n ≤ 32` stands in each clause, here and below: a type for widths would be
+// made at each call.
 #[tactic(auto, using(crate::specs::WriterLaws::powers))]
 fn power(n: u32) -> usize
     requires { n ≤ 32 }
@@ -69,7 +70,7 @@ impl BitWriter {
         }
     }
 
-    // The state after a test.
+    // The state after a test. `&`, not `&&`, which to the prover is a branch.
     #[tactic(auto, unfolding(crate::specs::Writer::waiting))]
     pub fn test(self, ok: bool) -> BitWriter
         ensures { Tested self ok result }
@@ -86,6 +87,7 @@ impl BitWriter {
         ensures fed { Fed out.old self (bits_n n v) out.new result }
         ensures fits_as_before { fits result ≡ fits self }
     {
+        // By `as` here and below: no `From` leads from `usize` to another number, nor from `u32` to `usize`.
         let j = self.at.bit() as u32;
         let all = join(self.bits, j, n, v);
         let mut k = self.at.0;
@@ -113,7 +115,8 @@ impl BitWriter {
         w.test(v < power(n))
     }
 
-    // A field where the flag says so; else no bits, for 0.
+    // A field where the flag says so; else no bits, for 0. An `if` here and below: a call with a closure for what is written would be as long, and
+    // would have to name the format.
     #[tactic(auto, using(crate::specs::WriterLaws::formats))]
     pub fn put_if(self, out: &mut [u8], on: bool, n: u32, v: usize) -> BitWriter
         requires { n ≤ 32 }
@@ -140,7 +143,7 @@ impl BitWriter {
         if on { self.flag(out, b) } else { self.test(!b) }
     }
 
-    // A size in its long or short form where the flag says so; else no bits, for 0.
+    // A size in its long or short form where the flag says so; else no bits, for 0. Not one with `minus1_if`: each writes a format of its own.
     pub fn size_if(
         self,
         out: &mut [u8],
@@ -182,7 +185,7 @@ impl BitWriter {
         }
     }
 
-    // The bytes of a slice.
+    // The bytes of a slice. A loop: after a `fold` nothing is known of an output that its closure changes.
     pub fn bytes(self, out: &mut [u8], s: &[u8]) -> BitWriter
         ensures fed { Fed out.old self (bits_of s.now) out.new result }
         ensures fits_as_before { fits result ≡ fits self }

@@ -1,5 +1,5 @@
 // A reader of bits, high bit first: by a rule of the project the state goes in and comes back by value, so the payload is lent to each
-// call. Once a read is refused, every later read gives 0 and the same state.
+// call, here and in header_reader. Once a read is refused, every later read gives 0 and the same state.
 #![tactic(auto)]
 
 ghost use Rattle.std.specs.Prelude.{◌≡◌, ◌+◌, ◌-◌, ◌*◌, ◌/◌, ◌%◌, ◌^◌, ◌≤◌, ◌<◌, true, T, MatchResult, eqb, leb, get_or, length, replicate};
@@ -11,8 +11,8 @@ ghost use Rattle.bits.specs.Window.{window_at};
 
 use refusals::Refusal;
 
-// A place counted in bits: the whole bytes passed, and the bits of the next one. So every place within a slice is a BitPos. Callers may give any
-// two numbers, so the second may be eight or more.
+// A place counted in bits, by a rule of the project a tuple: the whole bytes passed, and the bits of the next one. So every place within a slice
+// is a BitPos. Callers may give any two numbers, so the second may be eight or more.
 #[derive(Clone, Copy, Debug, PartialEq, Eq)]
 pub struct BitPos(pub usize, pub usize);
 
@@ -40,7 +40,7 @@ impl BitPos {
     }
 }
 
-// Why a payload is refused.
+// Why a payload is refused, by its number in docs/ABI.md.
 #[derive(Clone, Copy, Debug, PartialEq, Eq)]
 pub enum ReadError {
     // A header field, or a body among the HDR boxes, needs bits past the end.
@@ -69,8 +69,8 @@ impl Refusal for ReadError {
     }
 }
 
-// A reader's state: the bit that comes next, and the number of the refusal met so far (0: none), each of 64 bits. Reading takes 7 parts in 100
-// longer with an Option of an enum as the refusal, and up to 2.5 times as long where each read gives a Result in place of it.
+// A reader's state: the bit that comes next, and the number of the refusal met so far (0: none), each of 64 bits. With an Option of an enum as
+// the refusal a header-heavy payload takes 7 parts in 100 longer to read; with a Result at each read, the smallest takes 2.5 times as long.
 // The payload is no field: each read would have to promise that it leaves the same payload, and each sequence of reads to use that.
 #[derive(Clone, Copy, Debug, PartialEq, Eq)]
 pub struct Bits {
@@ -93,8 +93,8 @@ fn byte_at(data: &[u8], i: usize) -> u8
     data.get(i).copied().unwrap_or(0)
 }
 
-// The five bytes from byte i, as one number. A sum in place of `from_be_bytes`, which costs a tenth of the time of reading: its bytes pass
-// through memory.
+// The five bytes from byte i, as one number. A sum in place of `from_be_bytes`, with which a header-heavy payload takes a tenth longer to read: its
+// bytes pass through memory.
 fn window(data: &[u8], i: usize) -> u64
     requires { i ≤ length «data».now }
     ensures { (result ≡ window_at «data».now i) × (result < 1099511627776) }
@@ -106,7 +106,7 @@ fn window(data: &[u8], i: usize) -> u64
         + u64::from(byte_at(data, i + 4))
 }
 
-// The number that n bits from a place write.
+// The number that n bits from a place write. `as` here and below: no `From` goes to a narrower number, nor from `u32` to `usize`.
 fn field(data: &[u8], at: BitPos, n: u32) -> u32
     requires width { n ≤ 32 }
     requires room { bit_index at + n ≤ 8 * length «data».now }
@@ -119,7 +119,7 @@ fn field(data: &[u8], at: BitPos, n: u32) -> u32
     (high % size) as u32
 }
 
-// Whether the bit at a place is 1.
+// Whether the bit at a place is 1. By itself, as `flag` is beside `read`: as a field of one bit it makes the smallest payload an eighth longer to read.
 fn bit_at(data: &[u8], at: BitPos) -> bool
     requires { bit_index at + 1 ≤ 8 * length «data».now }
     ensures { result ≡ eqb (part «data».now (bit_index at) 1) 1 }
@@ -157,7 +157,7 @@ impl Bits {
         }
     }
 
-    // Whether n bits more are there, and the state past them.
+    // Whether n bits more are there, and the state past them. A pair, no Option: callers go on from the state in both cases.
     #[tactic(auto, using(crate::specs::Run::ahead_stuck, crate::specs::Run::ahead_there, crate::specs::Run::ahead_short), unfolding(crate::specs::Run::state))]
     fn ahead(self, data: &[u8], n: usize) -> (bool, Bits)
         requires { n ≤ 512 }
@@ -198,7 +198,8 @@ impl Bits {
         }
     }
 
-    // A flag that stands only where another says so; else false.
+    // A flag that stands only where another says so; else false. An `if`, here and below: each reads a format of its own, which a call with a
+    // closure would have to name.
     pub fn flag_if(self, data: &[u8], on: bool) -> (bool, Bits)
         ensures { Run (flag_if on) «data».now (state self) result.0 (state result.1) }
     {
@@ -223,7 +224,8 @@ impl Bits {
         if on { self.byte(data, n) } else { (0, self) }
     }
 
-    // A size of a long or a short form, where it stands at all; else 0.
+    // A size of a long or a short form, where it stands at all; else 0. It and `minus1_if` differ by the one that is added: they read
+    // two formats, and each contract names its own.
     #[tactic(auto, using(crate::specs::Window::pow_28))]
     pub fn size_if(self, data: &[u8], on: bool, large: bool, widths: Widths) -> (usize, Bits)
         ensures run { Run (field_if on (sized large widths.long widths.short)) «data».now (state self) result.0 (state result.1) }
@@ -251,19 +253,23 @@ impl Bits {
         }
     }
 
-    // The state after a test: the refusal where it fails and none was met before.
+    // The state after a test: the refusal where it fails and none was met before, of any number, so that callers may have refusals of their own.
     #[tactic(auto, using(crate::specs::Run::test_passes, crate::specs::Run::test_refuses, crate::specs::Run::test_stuck), unfolding(crate::specs::Run::state))]
-    pub fn test(self, ok: bool, error: ReadError) -> Bits
-        ensures { state result ≡ test (state self) ok (number error) }
+    pub fn test_number(self, ok: bool, refusal: usize) -> Bits
+        ensures { state result ≡ test (state self) ok refusal }
     {
         if ok || self.refusal != 0 {
             self
         } else {
-            Bits {
-                refusal: error as usize,
-                ..self
-            }
+            Bits { refusal, ..self }
         }
+    }
+
+    // The same, of a refusal of reading.
+    pub fn test(self, ok: bool, error: ReadError) -> Bits
+        ensures { state result ≡ test (state self) ok (number error) }
+    {
+        self.test_number(ok, error as usize)
     }
 
     // Fills out with bytes as one field: it keeps its zeros where they are not there.
@@ -283,7 +289,7 @@ impl Bits {
         next
     }
 
-    // N bytes as one field, where the flag says so; else zeros.
+    // N bytes as one field, where the flag says so; else zeros. An array of fixed size, here and in `body37_after`: there is no heap.
     pub fn body_if<const N: usize>(self, data: &[u8], on: bool) -> ([u8; N], Bits)
         requires { N ≤ 64 }
         ensures { Run (bytes_for on N) «data».now (state self) result.0 (state result.1) }
@@ -309,7 +315,7 @@ impl Bits {
         (body, next)
     }
 
-    // The place, or the refusal met.
+    // The place, or the refusal met. A `match` and no `TryFrom`: 0 is no refusal, so its `Result` would stand inside another.
     #[tactic(auto, using(std::proofs::lemmas::Bool::Decides::nat_tests), unfolding(crate::specs::Run::state))]
     pub fn place(self) -> Result<BitPos, ReadError>
         requires { T (is_reading_state (state self)) }

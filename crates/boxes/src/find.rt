@@ -4,7 +4,7 @@ ghost use Rattle.boxes.specs.Find.{find_box};
 
 use crate::{BoxHeader, FourCc, HeaderError, parse_box_header};
 
-// For every buffer and every type. It ends, since a box has at least the eight bytes of its header.
+// For every buffer and every type. It ends, since a box has at least the eight bytes of its header; a `loop`, since nothing counts the boxes before.
 #[tactic(auto, using(crate::specs::Find::found_none, crate::specs::Find::found_here, crate::specs::Find::found_later, crate::specs::Find::moves_on))]
 pub fn find_box(buf: &[u8], box_type: FourCc) -> Result<BoxHeader, HeaderError>
     ensures { result ≡ find_box box_type buf.now }

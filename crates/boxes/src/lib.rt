@@ -16,7 +16,8 @@ ghost use Rattle.boxes.specs.Boxed.{HeaderPut, full_box_header};
 use octets::{Span, get, part, put, put_u8};
 use refusals::Refusal;
 
-// A four-character code, its first character the highest byte.
+// A four-character code, its first character the highest byte. An alias: codes come from C and stand in records as numbers. Constants of it are
+// numbers in all crates: a constant's value takes no call, so none of `u32::from_be_bytes(*b"mini")`.
 pub type FourCc = u32;
 
 pub const UUID: FourCc = 0x75756964;
@@ -28,6 +29,7 @@ pub fn get_four_cc(s: &[u8], at: usize) -> FourCc
     requires { at + 4 ≤ length s.now }
     ensures { result ≡ num 4 s.now at }
 {
+    // A cast, here and in the crates above: Rust has no `From` to a smaller number, nor between `usize` and numbers of 32 or 64 bits.
     get::<4>(s, at) as u32
 }
 
@@ -38,14 +40,15 @@ pub fn put_four_cc(out: &mut [u8], at: usize, code: FourCc) -> usize
     put::<4>(out, at, u64::from(code))
 }
 
-// The extended type of a 'uuid' box: its sixteen bytes as two numbers, the first eight the high one.
+// The extended type of a 'uuid' box: its sixteen bytes as two numbers, the first eight the high one. In definitions an array is a list of any
+// length, and of two numbers the layout is 45 bytes without a condition (layout/specs/HeaderBytes).
 #[derive(Clone, Copy, Debug, PartialEq, Eq)]
 pub struct UserType {
     pub high: u64,
     pub low: u64,
 }
 
-// A box's header, and where its payload lies in the buffer.
+// A box's header, and where its payload lies in the buffer: two numbers, since `payload_start` and `payload_len` are the names of boxes.rs.
 #[derive(Clone, Copy, Debug, PartialEq, Eq)]
 pub struct BoxHeader {
     pub box_type: FourCc,
@@ -121,7 +124,7 @@ fn box_size(buf: &[u8], start: usize) -> Result<BoxSize, HeaderError>
     ensures { result ≡ size_at buf.now start }
 {
     let rest = buf.len() - start;
-    match get::<4>(buf, start) as u32 {
+    match get::<4>(buf, start) {
         0 => Ok(BoxSize {
             total: rest,
             head: BOX_HEADER_LEN,
@@ -149,15 +152,13 @@ fn typed_header(buf: &[u8], start: usize, size: BoxSize) -> Result<BoxHeader, He
     ensures { result ≡ typed_at buf.now start size.total size.head }
 {
     let box_type = get_four_cc(buf, start + 4);
-    let mut head = size.head;
-    let mut user_type = None;
-    if box_type == UUID {
-        if size.total - head < 16 {
-            return Err(HeaderError::TruncatedUserType);
-        }
-        user_type = Some(get_user_type(buf, start + head));
-        head += 16;
-    }
+    let (user_type, head) = if box_type != UUID {
+        (None, size.head)
+    } else if size.total - size.head < 16 {
+        return Err(HeaderError::TruncatedUserType);
+    } else {
+        (Some(get_user_type(buf, start + size.head)), size.head + 16)
+    };
     Ok(BoxHeader {
         box_type,
         user_type,

@@ -1,4 +1,5 @@
-// Expanding, for every record, source, original file type and output.
+// Expanding, for every record, source, original file type and output. Record and source stay two parameters: a struct that lends is read by its
+// `entry` in each clause, as `original` is.
 ghost use Rattle.std.specs.Prelude.{◌≡◌, true, ◌+◌, ◌≤◌, ◌<◌, take, IfOk};
 ghost use Rattle.ftyp.specs.FileType.{allowed, file_type_len};
 ghost use Rattle.slots.specs.Sound.{Bounded};
@@ -11,6 +12,7 @@ ghost use Rattle.expander.specs.Outcome.{refusal_in, refusal_of, outcome_of, exp
 use crate::file::{FilePlan, meta_body_len, put_file};
 use crate::item_data::data_lengths;
 use crate::refusal::{ExpandError, check};
+use boxes::BOX_HEADER_LEN;
 use ftyp::{EquivalentFileType, FileType, equivalent_file_type, ftyp_len};
 use mini::MinimizedImage;
 
@@ -19,11 +21,16 @@ fn content_start(image: MinimizedImage, t: EquivalentFileType, brands: &[u8]) ->
     requires { Bounded image × (DataBounded image × (allowed brands.now ≡ true)) }
     ensures { (result ≡ file_type_len t brands.now + (8 + meta_body_len image) + 8) × (result ≤ 2116000) }
 {
-    ftyp_len(t, brands) + (8 + meta_body_len(image, data_lengths(image))) + 8
+    let meta_len = BOX_HEADER_LEN + meta_body_len(image, data_lengths(image));
+    ftyp_len(t, brands) + meta_len + BOX_HEADER_LEN
 }
 
 #[tactic(auto, using(crate::specs::Placed::content_most))]
-fn plan(image: MinimizedImage, source: &[u8], original: FileType) -> Result<FilePlan, ExpandError>
+fn plan(
+    image: MinimizedImage,
+    source: &[u8],
+    original: FileType<&[u8]>,
+) -> Result<FilePlan, ExpandError>
     ensures refusal { refusal_in result ≡ refusal_of image source.now original.entry.compatible_brands.now }
     ensures plan { let t = original.entry in IfOk result (λ p. p ≡ file_plan image t.major_brand t.minor_version t.compatible_brands.now) }
     ensures bound { IfOk result (λ p. p.content_start ≤ 2116000) }
@@ -45,12 +52,11 @@ fn plan(image: MinimizedImage, source: &[u8], original: FileType) -> Result<File
 pub fn equivalent_file_len(
     image: MinimizedImage,
     source: &[u8],
-    original: FileType,
+    original: FileType<&[u8]>,
 ) -> Result<usize, ExpandError>
     ensures { let t = original.entry in outcome_of result ≡ expanded_len image source.now t.major_brand t.minor_version t.compatible_brands.now }
 {
-    let plan = plan(image, source, original)?;
-    Ok(plan.len)
+    plan(image, source, original).map(|p| p.len)
 }
 
 // The equivalent file of a record whose chunks lie in `source`, from the output's first byte on; its length. `original` is the file type of
@@ -59,7 +65,7 @@ pub fn equivalent_file_len(
 pub fn equivalent_file(
     image: MinimizedImage,
     source: &[u8],
-    original: FileType,
+    original: FileType<&[u8]>,
     out: &mut [u8],
 ) -> Result<usize, ExpandError>
     ensures answer { let t = original.entry in (outcome_of result, out.new) ≡ expanded image source.now t.major_brand t.minor_version t.compatible_brands.now out.old }

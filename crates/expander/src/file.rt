@@ -1,4 +1,5 @@
-// The boxes of the file, and how long they are. `Fit image source` stands in the contracts for the reason that `Bounded image` does in `slots`.
+// The boxes of the file, and how long they are. `Fit image source` stands in the contracts for the reason that `Bounded image` does in `slots`,
+// and so record and source stay two parameters.
 ghost use Rattle.std.specs.Prelude.{◌≡◌, true, ◌++◌, ◌+◌, ◌≤◌, ◌<◌, length};
 ghost use Rattle.octets.specs.Overwrite.{Wrote};
 ghost use Rattle.ftyp.specs.FileType.{allowed, file_type_len, file_type_box};
@@ -24,6 +25,7 @@ const META: FourCc = 0x6D657461;
 
 const MDAT: FourCc = 0x6D646174;
 
+// A function and no `From`, since neither type is of this crate.
 #[tactic(auto, unfolding(crate::specs::EquivalentFile::item_set))]
 fn item_set(image: MinimizedImage) -> ItemSet
     ensures { result ≡ item_set image }
@@ -54,7 +56,7 @@ fn put_item_boxes(out: &mut [u8], at: usize, set: ItemSet) -> usize
     put_iref(out, at, set)
 }
 
-// The item data lies from `base` on.
+// The item data lies from `base` on, here and below. In one struct with the lengths, `base` costs more in its uses than it saves as a parameter.
 #[tactic(auto, using(octets::specs::OverwriteLaws::writes), unfolding(crate::specs::EquivalentFile::meta_body))]
 fn put_meta_body(out: &mut [u8], image: MinimizedImage, source: &[u8], base: usize) -> usize
     requires room { meta_body_len image ≤ length out.old }
@@ -119,8 +121,7 @@ pub fn put_file(
     put_mdat(out, at, image, source)
 }
 
-// How long the body of 'meta' is. It takes the lengths, since to compute them asks for bounds on the data, and this public function asks none
-// of its callers.
+// How long the body of 'meta' is. It takes the lengths: to compute them asks for bounds on the data, for which this function does not ask.
 #[tactic(auto, using(crate::specs::Placed::meta_most))]
 pub fn meta_body_len(image: MinimizedImage, lengths: DataLengths) -> usize
     requires { Bounded image × (lengths ≡ data_lengths image) }

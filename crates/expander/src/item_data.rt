@@ -13,6 +13,7 @@ use items::{DataLengths, len_if};
 use mini::{Chunk, MiniGainMap, MinimizedImage, Span, chunk_len};
 use octets::{copy_in, part, put_u8};
 
+// The span lies in the source; `put_span` of writer takes what the source has of any span, so they are two.
 #[tactic(auto, unfolding(octets::specs::Part::part_of))]
 fn put_span(out: &mut [u8], at: usize, source: &[u8], x: Span) -> usize
     requires { (at + x.len ≤ length out.old) × SpanPlaced x source.now }
@@ -21,7 +22,7 @@ fn put_span(out: &mut [u8], at: usize, source: &[u8], x: Span) -> usize
     copy_in(out, at, part(source, x))
 }
 
-// An absent chunk is passed over.
+// An absent chunk is passed over: by a rule of the project, with `let .. else` and the cursor as it came.
 #[tactic(auto, using(octets::specs::OverwriteLaws::nothing))]
 fn put_chunk(out: &mut [u8], cursor: usize, source: &[u8], chunk: Chunk) -> usize
     requires { (cursor + chunk_len chunk ≤ length out.old) × ChunkPlaced chunk source.now }
@@ -33,7 +34,8 @@ fn put_chunk(out: &mut [u8], cursor: usize, source: &[u8], chunk: Chunk) -> usiz
     put_span(out, cursor, source, span)
 }
 
-// Where there is a gain map: one zero byte and its metadata, which are the tone map's bytes, and then its own.
+// Where there is a gain map: one zero byte and its metadata, which are the tone map's bytes, and then its own. The `if` stands here as in items
+// (`len_if`).
 #[tactic(auto, using(octets::specs::OverwriteLaws::writes, octets::specs::OverwriteLaws::nothing))]
 fn put_gain_map_if(out: &mut [u8], at: usize, source: &[u8], on: bool, g: MiniGainMap) -> usize
     requires room { at + (len_if on (1 + g.metadata.len) + len_if on g.«data».len) ≤ length out.old }
@@ -62,6 +64,7 @@ pub fn put_item_data(out: &mut [u8], image: MinimizedImage, source: &[u8]) -> us
     put_chunk(out, at, source, image.xmp)
 }
 
+// A function and no `From`, which asks nothing of its argument: the sum of metadata and one byte needs a bound.
 #[tactic(auto, unfolding(crate::specs::EquivalentFile::data_lengths))]
 pub fn data_lengths(image: MinimizedImage) -> DataLengths
     requires { DataBounded image }

@@ -11,7 +11,8 @@ use refusals::Refusal;
 use writer::checks::well_placed;
 use writer::is_writable;
 
-// Why a record is not expanded. Three cases are writing's too; a case that holds a `WriteError` would call a file that is too short one of writing.
+// Why a record is not expanded. Three cases are writing's too; a case that holds a `WriteError` would report a file that is too short as a refusal
+// of writing.
 #[derive(Clone, Copy, Debug, PartialEq, Eq)]
 pub enum ExpandError {
     // A present chunk passes the end of the source.
@@ -37,6 +38,7 @@ impl Refusal for ExpandError {
 
     ghost not_zero = { number_not_zero };
 
+    // A case that holds a length has no number by `as`; and here and below, the `match` is the definition's table.
     fn number(self) -> u8 {
         match self {
             ExpandError::Misplaced => 10,
@@ -63,7 +65,8 @@ fn is_uuid(types: Option<CodecTypes>) -> bool
     types.is_some_and(|t| t.infe_type == UUID || t.codec_config_type == UUID)
 }
 
-// The first of the reasons not to expand a record, if there is one.
+// The first of the reasons not to expand a record, in the order of their numbers, if there is one. A row of `if`s: over a list, each test would be
+// made, where the first that applies decides.
 #[tactic(auto, unfolding(crate::specs::Outcome::refusal_of))]
 pub fn check(image: MinimizedImage, source: &[u8], brands: &[u8]) -> Result<(), ExpandError>
     ensures value { refusal_in result ≡ refusal_of image source.now brands.now }

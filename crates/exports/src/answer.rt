@@ -2,6 +2,7 @@
 ghost use Rattle.std.specs.Prelude.{◌≡◌, ◌<◌, ◌≤◌, length};
 ghost use Rattle.std.specs.Fn.{FnOnceReturnsAtMut, FnOnceTakesAtMut};
 ghost use Rattle.exports.specs.Answer.{unit, packed};
+ghost use Rattle.exports.specs.TooShort.{number, number_not_zero, needed_in};
 ghost use Rattle.refusals.specs.Outcome.{outcome};
 
 use refusals::Refusal;
@@ -26,8 +27,30 @@ pub fn refused<E: Refusal>(error: E) -> u64
     packed(u16::from(error.number()), error.needed())
 }
 
-// The length that `put` writes into an output of at least `needed` bytes; refusal 16 where the output is shorter. A function that takes the
-// `Result` of the call too was tried: the answer of each call grew from one line to three.
+// The output is shorter than the bytes that it shall take.
+#[derive(Clone, Copy, Debug, PartialEq, Eq)]
+pub struct TooShort {
+    pub needed: usize,
+}
+
+impl Refusal for TooShort {
+    ghost number = { number };
+
+    ghost needed = { needed_in };
+
+    ghost not_zero = { number_not_zero };
+
+    fn number(self) -> u8 {
+        16
+    }
+
+    fn needed(self) -> usize {
+        self.needed
+    }
+}
+
+// The length that `put` writes into an output of at least `needed` bytes; refusal 16 where the output is shorter. It does not take
+// the call's `Result` too, so the calls have a `match`, here and in exports_outline: the proof of each would grow from one line to three.
 pub fn hand_out<F: FnOnce(&mut [u8]) -> usize>(needed: usize, out: &mut [u8], put: F) -> u64
     requires small { needed < unit }
     requires callable { needed ≤ length out.old → FnOnceTakesAtMut F.FnOnce put out.old }
@@ -35,7 +58,7 @@ pub fn hand_out<F: FnOnce(&mut [u8]) -> usize>(needed: usize, out: &mut [u8], pu
     ensures written { needed ≤ length out.old → FnOnceReturnsAtMut F.FnOnce put out.old result out.new }
 {
     if out.len() < needed {
-        return packed(16, needed);
+        return refused(TooShort { needed });
     }
     put(out) as u64
 }

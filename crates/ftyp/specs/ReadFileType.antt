@@ -15,7 +15,8 @@ use Rattle.octets.specs.BigEndian.{be, num}
 use Rattle.octets.specs.BigEndianLaws.{length-be, field_at}
 use Rattle.refusals.specs.Outcome.{refusal_in}
 use Rattle.ftyp.specs.FileType.{VVI3, VVIC, allowed, renamed, major_of, brands_of, ftyp_body}
-use Rattle.ftyp.specs.declared.read.FileTypeBody.{FileTypeBody}
+use Rattle.ftyp.specs.declared.FileType.{FileType}
+use Rattle.octets.specs.declared.Span.{Span}
 use Rattle.ftyp.specs.declared.read.FileTypeError.{FileTypeError}
 
 -- the brands of a body
@@ -35,24 +36,24 @@ pub number_not_zero : (e : FileTypeError) → number e ≡ 0 → ⊥
 number_not_zero e = search (rules, arith)
 
 -- what reading a body hands out as a number and a file type: 0 and the file type, or the refusal's number and zeros
-abbrev pub file_type_refusal : Result FileTypeBody FileTypeError → ℕ
+abbrev pub file_type_refusal : Result (FileType Span) FileTypeError → ℕ
 file_type_refusal = refusal_in number
 
-abbrev pub blank : FileTypeBody
+abbrev pub blank : FileType Span
 blank = record { major_brand = 0; minor_version = 0; compatible_brands = record { at = 0; len = 0 } }
 
-abbrev pub file_type_or_blank : Result FileTypeBody FileTypeError → FileTypeBody
+abbrev pub file_type_or_blank : Result (FileType Span) FileTypeError → FileType Span
 file_type_or_blank (Ok t) = t
 file_type_or_blank (Err e) = blank
 
-abbrev pub refused : Result FileTypeBody FileTypeError
+abbrev pub refused : Result (FileType Span) FileTypeError
 refused = Err (record {})
 
 -- a file type whose brands are the n bytes from 8 on
-abbrev pub accepted : (major minor n : ℕ) → Result FileTypeBody FileTypeError
+abbrev pub accepted : (major minor n : ℕ) → Result (FileType Span) FileTypeError
 accepted major minor n = Ok (record { major_brand = major; minor_version = minor; compatible_brands = record { at = 8; len = n } })
 
-unfoldable pub read_file_type : List ℕ → Result FileTypeBody FileTypeError
+unfoldable pub read_file_type : List ℕ → Result (FileType Span) FileTypeError
 read_file_type s = cond (is_file_type s) (accepted (num 4 s 0) (num 4 s 4) (length s - 8)) refused
 
 -- ---- a file type that is written is read back, with its brands

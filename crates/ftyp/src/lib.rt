@@ -22,15 +22,17 @@ const VVIC: FourCc = 0x76766963;
 
 const FTYP: FourCc = 0x66747970;
 
-// A file type, its compatible brands as they lie in the body of an 'ftyp'.
+// A file type, its compatible brands as they lie in the body of an 'ftyp': the bytes, or where in it they are.
 #[derive(Clone, Copy, Debug, PartialEq, Eq)]
-pub struct FileType<'a> {
+pub struct FileType<B> {
     pub major_brand: FourCc,
     pub minor_version: u32,
-    pub compatible_brands: &'a [u8],
+    pub compatible_brands: B,
 }
 
-// The file type of the equivalent file. Its brands are those of the original, and after them those that the flags name.
+// The file type of the equivalent file. Its brands are those of the original, and after them those that the flags name. The flags are the
+// definition's (specs/FileType), which leaves the list where it is lent; so the brands stay a parameter, with a clause of their own, here and in
+// expander.
 #[derive(Clone, Copy, Debug, PartialEq, Eq)]
 pub struct EquivalentFileType {
     pub major_brand: FourCc,
@@ -48,6 +50,7 @@ pub fn allowed(brands: &[u8]) -> bool
     brands.len() % 4 == 0 && brands.len() <= 4096
 }
 
+// A loop that ends at the brand: with `any` over the pieces the goal stays open.
 #[tactic(auto, using(crate::specs::FileTypeLaws::brand_found, crate::specs::FileTypeLaws::brand_later, crate::specs::FileTypeLaws::no_brand))]
 fn has_brand(brands: &[u8], b: FourCc) -> bool
     ensures { result ≡ has_brand brands.now b }
@@ -60,6 +63,7 @@ fn has_brand(brands: &[u8], b: FourCc) -> bool
     false
 }
 
+// Two numbers, here and below: a `FileType` that lends is read by its `entry` in each clause.
 #[tactic(auto, unfolding(crate::specs::FileType::renamed))]
 fn renamed(major: FourCc, minor: u32) -> bool
     ensures { result ≡ renamed major minor }
@@ -82,7 +86,7 @@ fn major_of(major: FourCc, minor: u32) -> FourCc
 
 // The three brands differ, so the list as it is lent decides on each.
 #[tactic(auto, unfolding(crate::specs::FileType::file_type))]
-pub fn equivalent_file_type(original: FileType, gain_map: bool) -> EquivalentFileType
+pub fn equivalent_file_type(original: FileType<&[u8]>, gain_map: bool) -> EquivalentFileType
     ensures { let t = original.entry in result ≡ file_type t.major_brand t.minor_version gain_map t.compatible_brands.now }
 {
     let brands = original.compatible_brands;
@@ -95,6 +99,7 @@ pub fn equivalent_file_type(original: FileType, gain_map: bool) -> EquivalentFil
     }
 }
 
+// An `if`, as in items (`len_if`).
 #[tactic(auto, using(octets::specs::OverwriteLaws::nothing))]
 fn put_added(out: &mut [u8], at: usize, add: bool, b: FourCc) -> usize
     requires { at + added_len add ≤ length out.old }
@@ -126,6 +131,7 @@ pub fn put_ftyp(out: &mut [u8], at: usize, file_type: EquivalentFileType, brands
     put_boxed(out, at, FTYP, |part| put_body(part, file_type, brands))
 }
 
+// The definition's choice between two numbers, plainer than a flag as a number times four.
 fn added_len(add: bool) -> usize
     ensures { (result ≡ added_len add) × (result ≤ 4) }
 {

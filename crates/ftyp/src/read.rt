@@ -2,18 +2,10 @@
 ghost use Rattle.std.specs.Prelude.{◌≡◌};
 ghost use Rattle.ftyp.specs.ReadFileType.{number, number_not_zero, read_file_type};
 
-use crate::allowed;
-use boxes::{FourCc, get_four_cc};
+use crate::{FileType, allowed};
+use boxes::get_four_cc;
 use octets::{Span, get};
 use refusals::Refusal;
-
-// What the body of an 'ftyp' gives, and where in it the compatible brands lie.
-#[derive(Clone, Copy, Debug, PartialEq, Eq)]
-pub struct FileTypeBody {
-    pub major_brand: FourCc,
-    pub minor_version: u32,
-    pub compatible_brands: Span,
-}
 
 // The body is no original file type: it is shorter than its two numbers, or its brands are no list that expanding allows.
 #[derive(Clone, Copy, Debug, PartialEq, Eq)]
@@ -35,13 +27,13 @@ impl Refusal for FileTypeError {
 
 // The file type of a body, for every body.
 #[tactic(auto, unfolding(crate::specs::ReadFileType::read_file_type))]
-pub fn read_file_type(body: &[u8]) -> Result<FileTypeBody, FileTypeError>
+pub fn read_file_type(body: &[u8]) -> Result<FileType<Span>, FileTypeError>
     ensures { result ≡ read_file_type body.now }
 {
     if body.len() < 8 || !allowed(&body[8..]) {
         return Err(FileTypeError);
     }
-    Ok(FileTypeBody {
+    Ok(FileType {
         major_brand: get_four_cc(body, 0),
         minor_version: get::<4>(body, 4) as u32,
         compatible_brands: Span {

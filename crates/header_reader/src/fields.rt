@@ -41,6 +41,7 @@ pub fn read_flags(b: Bits, payload: &[u8]) -> (Flags, Bits)
     (flags, b)
 }
 
+// `as`, here and in gain_map.rt and sizes.rt: no `From` goes to a narrower number.
 pub fn read_dimensions(b: Bits, payload: &[u8]) -> (Dimensions, Bits)
     ensures { Run dimensions payload.now (state b) result.0 (state result.1) }
 {
@@ -55,7 +56,7 @@ pub fn read_dimensions(b: Bits, payload: &[u8]) -> (Dimensions, Bits)
     (dimensions, b)
 }
 
-// `|`, not `||`, which to the prover is a branch with goals of its own.
+// `|`, not `||` or `matches!`, which to the prover are branches with goals of their own; so with `&` and `|` in sizes.rt.
 pub fn read_chroma(b: Bits, payload: &[u8], subsampling: u8) -> (MiniChroma, Bits)
     ensures { Run (chroma subsampling) payload.now (state b) result.0 (state result.1) }
 {

@@ -7,8 +7,8 @@ use crate::fields::{read_chroma, read_colour, read_format};
 use bits::Bits;
 use mini::{DIMENSION, Dimensions, GainMapHeader, SampleFormat, TmapCicp};
 
-// Where the flag is not set nothing is read. Each such part is a format of its own, so it says so itself: with one function for all, each call would
-// have to name the format.
+// Where the flag is not set nothing is read, here and below, and in fields.rt and hdr_boxes.rt. Each such part is a format of its own, so it says so
+// itself: with one function for all, each call would have to name the format.
 #[tactic(auto, unfolding(mini::specs::Syntax::tmap_cicp))]
 fn read_tmap_cicp(b: Bits, payload: &[u8], on: bool) -> (Option<TmapCicp>, Bits)
     ensures { Run (tmap_cicp on) payload.now (state b) result.0 (state result.1) }
@@ -22,7 +22,8 @@ fn read_tmap_cicp(b: Bits, payload: &[u8], on: bool) -> (Option<TmapCicp>, Bits)
     }
 }
 
-// A dimension: the main picture's where the flag says so.
+// A dimension: the main picture's where the flag says so. Besides state and payload it takes what the format takes: of a `Dimensions` it would have
+// to be told which of the two it reads.
 #[tactic(auto, unfolding(mini::specs::Syntax::gain_map_dimension))]
 fn read_dimension(
     b: Bits,
@@ -34,15 +35,13 @@ fn read_dimension(
 ) -> (u32, Bits)
     ensures { Run (gain_map_dimension present same large main) payload.now (state b) result.0 (state result.1) }
 {
-    if present {
-        if same {
-            (main, b)
-        } else {
+    match (present, same) {
+        (true, true) => (main, b),
+        (true, false) => {
             let (dimension, b) = b.minus1_if(payload, true, large, DIMENSION);
             (dimension as u32, b)
         }
-    } else {
-        (0, b)
+        (false, _) => (0, b),
     }
 }
 

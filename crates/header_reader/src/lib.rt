@@ -28,7 +28,7 @@ pub struct HdrPart {
     pub tmap_hdr: MiniHdrBoxes,
 }
 
-// One test for the whole part, since most pictures have none: with a test for each of the three, the smallest payload takes half as long again.
+// One test for the whole part, since most pictures have none: with a test for each of the three, the smallest payload takes a fifth longer to read.
 #[tactic(auto, using(crate::specs::Rules::run_no_hdr_part))]
 fn read_hdr_part(b: Bits, payload: &[u8], hdr: bool, d: Dimensions) -> (HdrPart, Bits)
     ensures { Run (hdr_part hdr d) payload.now (state b) (result.0.gain_map, (result.0.hdr_boxes, result.0.tmap_hdr)) (state result.1) }

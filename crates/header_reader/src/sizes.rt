@@ -9,7 +9,8 @@ ghost use Rattle.mini.specs.Syntax.{chunk_sizes};
 use bits::{Bits, ReadError};
 use mini::{CODEC_CONFIG, ChunkSizes, Flags, GainMapHeader, ITEM_DATA, METADATA};
 
-// The eleven sizes are of 28 bits at most, so their sum is at most 11 * 2^28.
+// The eleven sizes are of 28 bits at most, so their sum is at most 11 * 2^28. It stands in the clauses and not in `ChunkSizes`, which is the writer's
+// too, where nothing bounds it.
 pub fn read_sizes(b: Bits, payload: &[u8], f: Flags, g: GainMapHeader) -> (ChunkSizes, Bits)
     ensures run { Run (chunk_sizes f g) payload.now (state b) result.0 (state result.1) }
     ensures value_bound { sum (stored_sizes result.0) ≤ 2952790016 }

@@ -1,6 +1,6 @@
-// The header's bits, group by group as mini's Syntax has them. Once a value is one that no header holds, the writer's state says so: of a
-// value that is absent though its flag is set, zeros are written. Numbers are widened by `as`, which computes in a proof; of a `from` each
-// group's proof would have to carry the result.
+// The header's bits, group by group as mini's Syntax has them. Once a value is one that no header holds, the writer's state says so; where one
+// is absent though its flag is set, zeros are written. Numbers are widened by `as`, which computes in a proof; each group's proof would have to
+// carry the result of a `from`. `&` and `|` as in header_reader (fields.rt).
 ghost use Rattle.std.specs.Prelude.{◌≡◌};
 ghost use Rattle.bits.specs.Format.{choose, offset, number};
 ghost use Rattle.bit_writer.specs.Writer.{Puts};
@@ -48,7 +48,7 @@ pub fn put_chroma(w: BitWriter, out: &mut [u8], subsampling: u8, c: MiniChroma) 
         .test(subsampling == c.subsampling)
 }
 
-// The code of a float's depth: 16, 32 or 64 bits.
+// The code of a float's depth: 16, 32 or 64 bits. No logarithm: the definition has 2 for any other depth too.
 #[tactic(auto, unfolding(mini::specs::Views::float_code))]
 fn float_code(bits: u8) -> u8
     ensures { result ≡ float_code bits }
@@ -77,6 +77,8 @@ fn put_float_format(w: BitWriter, out: &mut [u8], f: SampleFormat) -> BitWriter
         .test(has_float_code(f))
 }
 
+// Where the flag is not set there is only a test. Here and below each such part is a format of its own, so it says so itself: with one function for
+// all, each call would have to name the format.
 #[tactic(auto, using(bit_writer::specs::WriterLaws::formats))]
 fn put_depth(w: BitWriter, out: &mut [u8], high: bool, bits: u8) -> BitWriter
     ensures { Puts (choose high (offset 9 3) (number 8)) out.old w bits out.new result }
@@ -165,6 +167,7 @@ pub fn put_tmap_cicp(w: BitWriter, out: &mut [u8], on: bool, c: Option<TmapCicp>
     }
 }
 
+// A side of the gain map. The flags and the main picture's side are the parameters of its format, the same for width and height.
 #[tactic(auto, using(bit_writer::specs::WriterLaws::formats), unfolding(mini::specs::Syntax::gain_map_dimension))]
 fn put_gain_map_dimension(
     w: BitWriter,

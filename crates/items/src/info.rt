@@ -4,7 +4,7 @@ ghost use Rattle.octets.specs.Overwrite.{Wrote};
 ghost use Rattle.items.specs.Optional.{bytes_if, len_if};
 ghost use Rattle.items.specs.ItemInfo.{infe_fields, infe, infe_len, exif_type, content_type, content_encoding, encoding_len, mime_fields, mime, mime_len, entry_bytes, entry_count, entries_len, iinf_body, iinf, iinf_len};
 
-use crate::{ItemSet, len_if};
+use crate::{ItemSet, how_many, len_if};
 use boxes::{FourCc, put_boxed, put_four_cc, put_full_box_header};
 use mini::ItemKind;
 use octets::{copy_in, put, put_u8};
@@ -21,7 +21,7 @@ const EXIF: FourCc = 0x45786966;
 
 const DEFLATED_EXIF: FourCc = 0x64457866;
 
-// The flags of an entry.
+// The flags of an entry: numbers, no enum, since a box's flags are the number that is written.
 const SHOWN: u32 = 0;
 
 const HIDDEN: u32 = 1;
@@ -38,6 +38,7 @@ struct Entry {
 }
 
 impl Entry {
+    // So that an entry is one line where it is made.
     fn new(id: ItemKind, flags: u32, item_type: FourCc) -> Self
         ensures { result ≡ record { id = id; flags = flags; item_type = item_type } }
     {
@@ -77,6 +78,7 @@ fn put_infe_if(out: &mut [u8], at: usize, on: bool, entry: Entry) -> usize
     if on { put_infe(out, at, entry) } else { at }
 }
 
+// One of two codes, as in the definition: a table by the flag would be no plainer than the `if`.
 fn exif_type(compressed: bool) -> FourCc
     ensures { result ≡ exif_type compressed }
 {
@@ -152,11 +154,8 @@ fn put_entries(out: &mut [u8], at: usize, s: ItemSet) -> usize
 fn entry_count(s: ItemSet) -> u16
     ensures { result ≡ entry_count s }
 {
-    1 + u16::from(s.alpha)
-        + u16::from(s.tone_map)
-        + u16::from(s.gain_map)
-        + u16::from(s.exif)
-        + u16::from(s.xmp)
+    let others = [s.alpha, s.tone_map, s.gain_map, s.exif, s.xmp];
+    1 + how_many(&others)
 }
 
 #[tactic(auto, using(octets::specs::OverwriteLaws::writes, crate::specs::ItemInfo::entry_laws), unfolding(crate::specs::ItemInfo::iinf_body))]
@@ -183,7 +182,7 @@ fn mime_len(compressed: bool) -> usize
     42 + len_if(compressed, 7)
 }
 
-// How many bytes the entries take.
+// How many bytes the entries take, part by part as they are written: an array would name the same parts, and then add them.
 fn entries_len(s: ItemSet) -> usize
     ensures { (result ≡ entries_len s) × (result ≤ 154) }
 {

@@ -7,7 +7,7 @@ pub mod info;
 pub mod locations;
 pub mod references;
 
-ghost use Rattle.std.specs.Prelude.{◌≡◌, ◌+◌, ◌≤◌, ◌<◌, length};
+ghost use Rattle.std.specs.Prelude.{◌≡◌, ◌+◌, ◌≤◌, ◌<◌, length, count_by};
 ghost use Rattle.octets.specs.Overwrite.{Wrote};
 ghost use Rattle.items.specs.ItemLocations.{data_len};
 ghost use Rattle.items.specs.Optional.{len_if};
@@ -55,7 +55,7 @@ pub struct DataLengths {
 }
 
 impl DataLengths {
-    // How many bytes the items have together.
+    // How many bytes the items have together. By name: over an array the sum's bound does not close.
     pub fn total(self) -> usize
         requires { data_len self < 4294967296 }
         ensures { result ≡ data_len self }
@@ -64,12 +64,21 @@ impl DataLengths {
     }
 }
 
-// The length of what is written only where a flag says so. What writes it is a function for each part, as `put_infe_if`: one for all parts, which
-// took a closure that writes, proved where it was called once, but not where one part follows another.
+// The length of what is written only where a flag says so. What writes is a function for each part, here and in info.rt, references.rt and group.rt:
+// one for all parts, by a closure that writes, proves where it is called once, but not where one part follows another.
 pub fn len_if(on: bool, n: usize) -> usize
     ensures { (result ≡ len_if on n) × (result ≤ n) }
 {
     if on { n } else { 0 }
+}
+
+// How many of the flags hold. `as`, here and in locations.rt and references.rt: a `usize` has no `From` to another number.
+fn how_many(flags: &[bool]) -> u16
+    requires { length flags.now ≤ 65535 }
+    ensures value { result ≡ count_by (λ on. on) flags.now }
+    ensures upper_bound { result ≤ length flags.now }
+{
+    flags.iter().filter(|on| **on).count() as u16
 }
 
 #[tactic(auto, using(octets::specs::OverwriteLaws::writes), unfolding(crate::specs::HandlerAndPrimary::hdlr_body))]

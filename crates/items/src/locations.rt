@@ -1,9 +1,9 @@
 // 'iloc' version 1: an entry for each item that has bytes.
-ghost use Rattle.std.specs.Prelude.{◌≡◌, ◌+◌, ◌≤◌, ◌<◌, ◌==◌, not, length, count_by};
+ghost use Rattle.std.specs.Prelude.{◌≡◌, ◌+◌, ◌≤◌, ◌<◌, length};
 ghost use Rattle.octets.specs.Overwrite.{Wrote};
 ghost use Rattle.items.specs.ItemLocations.{entry, entries, iloc_body, iloc, located, locations, data_len, for_bytes, location_count, entries_len, iloc_len};
 
-use crate::DataLengths;
+use crate::{DataLengths, how_many};
 use boxes::{FourCc, put_boxed, put_full_box_header};
 use mini::{ItemKind, Span};
 use octets::put;
@@ -39,8 +39,8 @@ fn put_located(out: &mut [u8], at: usize, id: ItemKind, bytes: Span) -> usize
     }
 }
 
-// The entries go by item number, the bytes lie in another order. Row by row: a table of the six would name the same values, and a loop over it
-// passes over those without bytes besides.
+// The entries go by item number, the bytes lie in another order. Row by row: a table of the six would name the same values, and its loop would take
+// a law of the list. In one struct with the lengths, `base` takes more text in its uses than it saves as a parameter, here and below.
 #[tactic(auto, using(octets::specs::OverwriteLaws::writes, crate::specs::ItemLocations::location_laws), unfolding(crate::specs::ItemLocations::locations))]
 fn put_entries(out: &mut [u8], at: usize, base: usize, l: DataLengths) -> usize
     requires room { at + entries_len l ≤ length out.old }
@@ -69,15 +69,7 @@ fn location_count(l: DataLengths) -> u16
     ensures upper_bound { result ≤ 6 }
 {
     let lengths = [l.main, l.alpha, l.tone_map, l.gain_map, l.exif, l.xmp];
-    count_with_bytes(&lengths) as u16
-}
-
-// How many of the lengths are not 0.
-fn count_with_bytes(lengths: &[usize]) -> usize
-    ensures value { result ≡ count_by (λ len. not (len == 0)) lengths.now }
-    ensures upper_bound { result ≤ length lengths.now }
-{
-    lengths.iter().filter(|len| **len != 0).count()
+    how_many(&lengths.map(|len| len != 0))
 }
 
 #[tactic(auto, using(octets::specs::OverwriteLaws::writes, crate::specs::ItemLocations::location_laws), unfolding(crate::specs::ItemLocations::iloc_body))]

@@ -33,13 +33,14 @@ fn put_ids(out: &mut [u8], from: ItemKind, to: &[ItemKind]) -> usize
 {
     let at = put::<2>(out, 0, u64::from(from.0));
     let mut next = put::<2>(out, at, to.len() as u64);
+    // A loop: after a `fold` nothing is known of an output that its closure changes.
     for &id in to {
         next = put::<2>(out, next, u64::from(id.0));
     }
     next
 }
 
-// A reference to one item or two.
+// A reference to one item or two. Type and ends are each call's own: a struct of them would be made for one call and taken apart in it.
 #[tactic(auto, using(boxes::specs::Boxed::boxes, crate::proofs::Laws::counted), unfolding(crate::specs::ItemReferences::reference))]
 fn put_reference(
     out: &mut [u8],
@@ -108,17 +109,10 @@ fn put_dimg(out: &mut [u8], at: usize, gain_map: bool) -> usize
     ensures { Wrote out.old at (14 + len_if gain_map 2)
         (reference 0x64696D67 TMAP (MAIN ∷ cond gain_map (GAIN_MAP ∷ []) [])) out.new result }
 {
-    if gain_map {
-        put_reference(
-            out,
-            at,
-            DIMG,
-            ItemKind::TMAP,
-            &[ItemKind::MAIN, ItemKind::GAIN_MAP],
-        )
-    } else {
-        put_reference(out, at, DIMG, ItemKind::TMAP, &[ItemKind::MAIN])
-    }
+    // A part of one list: two calls would differ in their list alone.
+    let to = [ItemKind::MAIN, ItemKind::GAIN_MAP];
+    let n = 1 + usize::from(gain_map);
+    put_reference(out, at, DIMG, ItemKind::TMAP, &to[..n])
 }
 
 #[tactic(auto, using(octets::specs::OverwriteLaws::nothing))]

@@ -5,14 +5,14 @@ ghost use Rattle.layout.specs.FileTypeBytes.{file_type_bytes};
 
 use crate::part::put_span;
 use boxes::put_four_cc;
-use ftyp::read::FileTypeBody;
-use octets::put;
+use ftyp::FileType;
+use octets::{Span, put};
 
 // How many bytes a file type is.
 pub const FILE_TYPE_LEN: usize = 24;
 
 #[tactic(auto, using(octets::specs::OverwriteLaws::writes), unfolding(crate::specs::FileTypeBytes::file_type_bytes))]
-pub fn put_file_type(out: &mut [u8], at: usize, t: FileTypeBody) -> usize
+pub fn put_file_type(out: &mut [u8], at: usize, t: FileType<Span>) -> usize
     requires { at + FILE_TYPE_LEN ≤ length out.old }
     ensures { Wrote out.old at FILE_TYPE_LEN (file_type_bytes t) out.new result }
 {

@@ -22,7 +22,7 @@ pub fn put_span(out: &mut [u8], at: usize, s: Span) -> usize
     put::<8>(out, at, s.len as u64)
 }
 
-// What is absent is zeros, here and in other layouts; with a closure for the rest, one part after another does not prove (`len_if`, items).
+// What is absent is zeros, here, in header.rt and in other layouts; with a closure for the rest a row of parts does not prove (`len_if`, items).
 #[tactic(auto, using(octets::specs::OverwriteLaws::writes))]
 pub fn put_chunk(out: &mut [u8], at: usize, c: Chunk) -> usize
     requires { at + 17 ≤ length out.old }

@@ -55,6 +55,8 @@ pub struct TmapCicp {
     pub full_range: bool,
 }
 
+// `subsampling` is a number here and below, and `orientation` too: a record may hold one that no field holds, which writing refuses, and an enum
+// would ask more of callers.
 #[derive(Clone, Copy, Debug, PartialEq, Eq, Default)]
 pub struct MiniChroma {
     pub subsampling: u8,
@@ -62,8 +64,8 @@ pub struct MiniChroma {
     pub vertically_centered: bool,
 }
 
-// The bodies, each with zeros where it is absent, and after a cclv's length. A rule of the project (document 01) asks for a flag beside each,
-// and not an Option.
+// The bodies, each with zeros where it is absent, and after a cclv's length. A rule of the project asks for a flag beside each, and no Option
+// (docs/DECISIONS.md, 9).
 #[derive(Clone, Copy, Debug, PartialEq, Eq)]
 pub struct MiniHdrBoxes {
     pub has_clli: bool,
@@ -83,6 +85,7 @@ pub struct MiniHdrBoxes {
 // A part of the payload that may be absent.
 pub type Chunk = Option<Span>;
 
+// Width and height are two fields of the header, here and below, and so of the record and its parts; a `Size` is what a call gives.
 #[derive(Clone, Copy, Debug, PartialEq, Eq)]
 pub struct MiniGainMap {
     pub width: u32,
@@ -100,7 +103,8 @@ pub struct MiniGainMap {
     pub data: Span,
 }
 
-// The gain map is blank where has_gain_map is false: the flag is there by the same rule.
+// The gain map is blank where has_gain_map is false: the flag is there by the same rule. `alpha` and `hdr` are flags of the header, and the record's
+// definition has them beside the data, which may be empty where they are set.
 #[derive(Clone, Copy, Debug, PartialEq, Eq)]
 pub struct MinimizedImage {
     // None: inferred from the brand in the file type's minor version.
@@ -162,8 +166,8 @@ pub struct MainFormat {
     pub explicit_codec_types: Option<CodecTypes>,
 }
 
-// The gain map's part of the header, before the HDR boxes: blank where `present` is false. Here and above, a flag that the header has stands beside
-// what it brings, since both are fields of the syntax table.
+// The gain map's part of the header, before the HDR boxes: blank where `present` is false. Here and in `Flags`, a field of the header stands beside
+// what it brings or what repeats it (`float` and `format`, `subsampling` and `chroma`), since each is in the syntax table or made of its fields.
 #[derive(Clone, Copy, Debug, PartialEq, Eq, Default)]
 pub struct GainMapHeader {
     pub present: bool,
@@ -181,7 +185,7 @@ pub struct GainMapHeader {
     pub tmap_cicp: Option<TmapCicp>,
 }
 
-// The sizes of the chunks in bytes, 0 for what is absent, with the flags for the long forms.
+// The sizes of the chunks in bytes, with the flags for the long forms. What is absent is 0 and no None, since that is what an absent field reads as.
 #[derive(Clone, Copy, Debug, PartialEq, Eq)]
 pub struct ChunkSizes {
     pub large_metadata: bool,
@@ -229,7 +233,8 @@ pub struct Header {
     pub sizes: ChunkSizes,
 }
 
-// The number of an item in the equivalent file (mini.rs, item_id); document 01: the numbers 1 to 7 belong to the item kind.
+// The number of an item in the equivalent file (mini.rs, item_id). By a rule of the project the numbers 1 to 7 are constants of the item kind, and
+// no cases of an enum.
 #[derive(Clone, Copy, Debug, PartialEq, Eq)]
 pub struct ItemKind(pub u16);
 
@@ -256,7 +261,7 @@ pub struct Size {
     pub height: u32,
 }
 
-// What the desk check asks of a record, each by itself (document 01); the size is the one as shown.
+// What the desk check asks of a record, each by itself; the size is the one as shown.
 #[derive(Clone, Copy, Debug, PartialEq, Eq)]
 pub struct DisplayConditions {
     pub integer_samples: bool,
@@ -270,14 +275,14 @@ const MAX_DISPLAY_WIDTH: u32 = 1920;
 
 const MAX_DISPLAY_HEIGHT: u32 = 1080;
 
-// 0 where it is absent.
+// 0 where it is absent. A function, since an Option takes no method of this crate.
 pub fn chunk_len(chunk: Chunk) -> usize
     ensures { result ≡ chunk_len chunk }
 {
     chunk.map_or(0, |span| span.len)
 }
 
-// Integers of 0 bits, as in a blank record.
+// Integers of 0 bits, as in a blank record. A derive takes only a case without fields.
 impl Default for SampleFormat {
     ghost use Rattle.std.specs.Prelude.{◌≡◌};
     ghost use Rattle.mini.specs.declared.SampleFormat.TheVariants.{Integer};
@@ -340,7 +345,7 @@ impl MiniChroma {
     }
 }
 
-// How many bytes follow a cclv's first.
+// How many bytes follow a cclv's first. Flag by flag: `count_ones` of the last three takes twice as long where the processor's own count is not used.
 #[tactic(auto, unfolding(crate::specs::Cclv::cclv_more))]
 pub fn cclv_more(flags: u8) -> usize
     ensures value { result ≡ cclv_more flags }
@@ -350,7 +355,7 @@ pub fn cclv_more(flags: u8) -> usize
     24 * (f >> 5 & 1) + 4 * ((f >> 4 & 1) + (f >> 3 & 1) + (f >> 2 & 1))
 }
 
-// The values of Table O.3, with or without an ICC profile.
+// The values of Table O.3, with or without an ICC profile: two choices, as the table has them.
 fn table_cicp(icc: bool, chroma: MiniChroma) -> Cicp
     ensures { result ≡ table_cicp icc chroma.subsampling }
 {
@@ -403,7 +408,7 @@ impl MinimizedImage {
         }
     }
 
-    // Whether a display takes the picture as it is (document 01's desk check).
+    // Whether a display takes the picture as it is: the desk check.
     pub fn meets_display_profile(self) -> bool
         ensures { result ≡ meets_display_profile self }
     {

@@ -1,5 +1,5 @@
-// Bytes read from a slice and written into an output that the caller lends. Numbers are big-endian. By a rule of the project a writing function
-// takes the output and a place, and gives back the place after what it wrote.
+// Bytes read from a slice and written into an output that the caller lends. Numbers are big-endian. A writing function takes the output and a place,
+// and gives back the place after, here and in the crates above: a box's body is written before its header, so a caller goes on from two places.
 #![tactic(auto)]
 
 ghost use Rattle.std.specs.Prelude.{◌≡◌, [], ◌∷◌, ◌+◌, ◌^◌, ◌≤◌, ◌<◌, length, replicate};
@@ -14,7 +14,7 @@ pub struct Span {
     pub len: usize,
 }
 
-// One byte.
+// One byte, promised as itself and not as the low byte of a number.
 #[tactic(auto, unfolding(crate::specs::Overwrite::overwrite))]
 pub fn put_u8(out: &mut [u8], at: usize, x: u8) -> usize
     requires { at + 1 ≤ length out.old }
@@ -58,6 +58,7 @@ pub fn put_repeated(out: &mut [u8], at: usize, n: usize, x: u8) -> usize
     end
 }
 
+// As the layouts have it for what is absent.
 pub fn put_zeros(out: &mut [u8], at: usize, n: usize) -> usize
     requires { at + n ≤ length out.old }
     ensures { Wrote out.old at n (replicate n 0) out.new result }
@@ -65,7 +66,7 @@ pub fn put_zeros(out: &mut [u8], at: usize, n: usize) -> usize
     put_repeated(out, at, n, 0)
 }
 
-// The number that N bytes stand for.
+// The number that N bytes stand for. They are put behind zeros, since `from_be_bytes` takes eight.
 #[tactic(auto, using(crate::proofs::Numbers::getting))]
 pub fn get<const N: usize>(s: &[u8], at: usize) -> u64
     requires width { N ≤ 8 }

@@ -14,7 +14,7 @@ pub const GIVEN_ORDER: [u8; 11] = [1, 2, 3, 4, 5, 6, 7, 8, 9, 10, 11];
 // And in the order in which they lie.
 pub const STORED_ORDER: [u8; 11] = [6, 9, 5, 1, 2, 3, 8, 4, 7, 10, 11];
 
-// The chunks by number, the first that of number 1. A span of the record is present where its owner is.
+// The chunks by number, the first that of number 1: by name, since that is how the record holds them. A span is present where its owner is.
 #[tactic(auto, unfolding(crate::specs::Chunks::given_chunks))]
 fn given_chunks(i: MinimizedImage) -> [Chunk; 11]
     ensures { result ≡ given_chunks i }
@@ -44,7 +44,7 @@ fn put_entry(out: &mut [u8], at: usize, number: u8, c: Chunk) -> usize
     put_chunk(out, at, c)
 }
 
-// The chunks in an order of their numbers.
+// The chunks in an order of their numbers. A `for`, here and in ends.rt: after a `fold` nothing is known of an output that its closure changes.
 pub fn put_entries(out: &mut [u8], at: usize, i: MinimizedImage, order: &[u8]) -> usize
     requires room { at + 18 * length order.now ≤ length out.old }
     requires numbers { All (λ n. (1 ≤ n) × (n ≤ 11)) order.now }

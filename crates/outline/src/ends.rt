@@ -15,7 +15,7 @@ use header_reader::hdr_boxes::read_hdr_boxes_if;
 use header_reader::sizes::{read_sizes, read_trailing_bits};
 use octets::put;
 
-// The state after each part.
+// The state after each part, by name: each part is read in its own way.
 pub fn read_ends(payload: &[u8]) -> [Bits; 12]
     ensures { places result ≡ part_ends payload.now }
 {
@@ -47,7 +47,8 @@ pub fn read_ends(payload: &[u8]) -> [Bits; 12]
     ]
 }
 
-// The place of a state in bits, as eight bytes: of a number of more only the low eight, so that nothing is asked of the state.
+// The place of a state in bits, as eight bytes: of a number of more only the low eight, so that nothing is asked of the state. `as`, here
+// and in lib.rt: no `From` goes from `usize` to 64 bits.
 fn put_place(out: &mut [u8], at: usize, b: Bits) -> usize
     requires { at + 8 ≤ length out.old }
     ensures { Wrote out.old at 8 (be 8 (state b).at) out.new result }

@@ -1,6 +1,6 @@
 -- Laws that several proofs cite.
 use Rattle.std.proofs.Common.{length-append, length-take-le}
-use Rattle.std.proofs.lemmas.List.{length-map}
+use Rattle.std.proofs.lemmas.List.{length-map, get_or_default}
 use Rattle.octets.specs.OverwriteLaws.{overwrite_cons, overwrite-append}
 
 -- the writes of a list of runs
@@ -8,3 +8,6 @@ pub ruleset list_writes = (overwrite_cons, overwrite-append, length-append, leng
 
 -- the first items of a list
 pub ruleset taken = (length-take-le)
+
+-- a row of a table
+pub ruleset row = (get_or_default)

@@ -42,7 +42,8 @@ fn put_cclv(out: &mut [u8], at: usize, held: &[u8; 37]) -> usize
 impl HdrBox {
     ghost use Rattle.properties.specs.HdrBoxes.{hdr_box, hdr_box_len};
 
-    // How many bytes `put` writes: a box's header takes eight, that of a full box twelve.
+    // How many bytes `put` writes: a box's header takes eight, that of a full box twelve. Here and in `put` case by case, as in the definitions: what
+    // the cases share is in `put_box` and `put_full_box`.
     pub fn len(self) -> usize
         ensures { (result ≡ hdr_box_len self) × (result ≤ 45) }
     {

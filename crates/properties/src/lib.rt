@@ -9,7 +9,7 @@ pub mod property;
 
 ghost use Rattle.std.specs.Prelude.{◌≤◌};
 
-// irot's angle and imir's axis, where there is one.
+// irot's angle and imir's axis, where there is one: two `Option`s, no enum, since either may be there without the other, and both.
 #[derive(Clone, Copy, Debug, PartialEq, Eq)]
 pub struct Turns {
     pub angle: Option<u8>,

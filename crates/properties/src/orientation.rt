@@ -4,7 +4,7 @@ ghost use Rattle.properties.specs.Orientation.{turns_of};
 
 use crate::Turns;
 
-// For the orientations 1 to 8.
+// For the orientations 1 to 8: by a rule of the project a table.
 const TURNS: [Turns; 8] = [
     Turns {
         angle: None,
@@ -41,6 +41,7 @@ const TURNS: [Turns; 8] = [
 ];
 
 // The row of an orientation.
+#[tactic(auto, using(crate::proofs::Laws::row), unfolding(crate::specs::Orientation::turns_of, crate::specs::Orientation::turn_table))]
 pub fn turns_of(orientation: u8) -> Turns
     requires { (1 ≤ orientation) × (orientation ≤ 8) }
     ensures { result ≡ turns_of orientation }

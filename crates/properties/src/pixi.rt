@@ -11,7 +11,7 @@ use octets::{put_repeated, put_u8};
 
 const PIXI: FourCc = 0x70697869;
 
-// The channel numbers: 2 is the first component of a picture, 3 and 4 are the other two, 5 is alpha.
+// The channel numbers, no enum since they are what is written: 2 is the first component of a picture, 3 and 4 are the other two, 5 is alpha.
 const FIRST: Channel = Channel {
     idc: 2,
     subsampling_type: 0,
@@ -30,6 +30,7 @@ fn component_format(format: SampleFormat) -> u8
     u8::from(format.is_float())
 }
 
+// A table of its own: 2 for 4:2:0, 1 for 4:2:2, else 0. The subsampling is a number, as in the record.
 fn subsampling_type(subsampling: u8) -> u8
     ensures { (result ≡ subsampling_type subsampling) × (result ≤ 2) }
 {
@@ -41,10 +42,10 @@ fn subsampling_type(subsampling: u8) -> u8
 }
 
 // The chroma siting code.
-fn subsampling_location(horizontally_centered: bool, vertically_centered: bool) -> u8
-    ensures { (result ≡ subsampling_location horizontally_centered vertically_centered) × (result ≤ 3) }
+fn subsampling_location(chroma: MiniChroma) -> u8
+    ensures { (result ≡ subsampling_location chroma.horizontally_centered chroma.vertically_centered) × (result ≤ 3) }
 {
-    match (horizontally_centered, vertically_centered) {
+    match (chroma.horizontally_centered, chroma.vertically_centered) {
         (true, true) => 1,
         (true, false) => 3,
         (false, true) => 0,
@@ -52,6 +53,7 @@ fn subsampling_location(horizontally_centered: bool, vertically_centered: bool) 
     }
 }
 
+// No `From`: which channel it is, the chroma does not say.
 fn chroma_channel(idc: u8, chroma: MiniChroma) -> Channel
     requires { idc ≤ 7 }
     ensures { told result ≡ chroma_channel idc chroma }
@@ -59,10 +61,7 @@ fn chroma_channel(idc: u8, chroma: MiniChroma) -> Channel
     Channel {
         idc,
         subsampling_type: subsampling_type(chroma.subsampling),
-        subsampling_location: subsampling_location(
-            chroma.horizontally_centered,
-            chroma.vertically_centered,
-        ),
+        subsampling_location: subsampling_location(chroma),
     }
 }
 
@@ -84,6 +83,7 @@ fn put_channels(out: &mut [u8], at: usize, format: SampleFormat, channels: &[Cha
     requires { at + 2 * length channels.now ≤ length out.old }
     ensures { Wrote out.old at (2 * length channels.now) (joined (map (channel_bytes (component_format format)) (map told channels.now))) out.new result }
 {
+    // A loop: after a `fold` nothing is known of an output that its closure changes. `put_kept` (slots) is the like of it, of another item.
     let mut next = at;
     for &channel in channels {
         next = put_channel(out, next, format, channel);
@@ -98,6 +98,7 @@ fn pixi_body(out: &mut [u8], format: SampleFormat, channels: &[Channel]) -> usiz
 {
     let n = channels.len();
     let at = put_full_box_header(out, 0, 0, 1);
+    // `as`: a `usize` has no `From` to another number.
     let at = put_u8(out, at, n as u8);
     let at = put_repeated(out, at, n, format.bits());
     put_channels(out, at, format, channels)
@@ -114,7 +115,7 @@ fn put_pixi_box(out: &mut [u8], at: usize, format: SampleFormat, channels: &[Cha
 // How many bytes `put_alpha_pixi` writes.
 pub const ALPHA_PIXI_LEN: usize = 16;
 
-// How many bytes `put_pixi` writes.
+// How many bytes `put_pixi` writes, for one channel or three.
 pub fn pixi_len(chroma: MiniChroma) -> usize
     ensures { (result ≡ pixi_len (channels_of chroma)) × (result ≤ 22) }
 {

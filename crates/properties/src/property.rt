@@ -77,10 +77,11 @@ pub fn put_ispe(out: &mut [u8], at: usize, size: Size) -> usize
     put_boxed(out, at, ISPE, |part| ispe_body(part, size))
 }
 
+// The flag is the first bit of its byte.
 fn full_range_byte(full: bool) -> u8
     ensures { result ≡ full_range_byte full }
 {
-    if full { 0x80 } else { 0 }
+    u8::from(full) << 7
 }
 
 #[tactic(auto, using(octets::specs::OverwriteLaws::writes), unfolding(crate::specs::Property::nclx_body))]
@@ -95,7 +96,7 @@ fn nclx_body(out: &mut [u8], cicp: Cicp, full: bool) -> usize
     put_u8(out, at, full_range_byte(full))
 }
 
-// Colour by code points.
+// Colour by code points. Two parameters: the struct that holds the same two, `TmapCicp`, is named for the tone map.
 #[tactic(auto, using(boxes::specs::Boxed::boxes), unfolding(crate::specs::Property::nclx))]
 pub fn put_nclx(out: &mut [u8], at: usize, cicp: Cicp, full: bool) -> usize
     requires { at + nclx_len ≤ length out.old }
@@ -122,7 +123,7 @@ pub fn put_prof(out: &mut [u8], at: usize, icc: &[u8]) -> usize
     put_boxed(out, at, COLR, |part| prof_body(part, icc))
 }
 
-// A codec configuration, in a box of its type.
+// A codec configuration, in a box of its type: `put_box` under the name of its definition.
 #[tactic(auto, unfolding(crate::specs::Property::codec_config))]
 pub fn put_codec_config(out: &mut [u8], at: usize, box_type: FourCc, config: &[u8]) -> usize
     requires { (at + codec_config_len (length config.now) ≤ length out.old) × (codec_config_len (length config.now) < 4294967296) }
@@ -145,7 +146,7 @@ pub fn put_auxc(out: &mut [u8], at: usize) -> usize
     )
 }
 
-// 'irot' with its angle, or 'imir' with its axis.
+// 'irot' with its angle, or 'imir' with its axis: one function, since both are written alike, so the type is a parameter.
 #[tactic(auto, using(boxes::specs::Boxed::boxes))]
 pub fn put_turn(out: &mut [u8], at: usize, box_type: FourCc, turn: u8) -> usize
     requires { at + turn_len ≤ length out.old }

@@ -12,7 +12,7 @@ pub fn chunk(payload: &[u8], c: Chunk) -> &[u8]
     span(payload, c.unwrap_or_default())
 }
 
-// The same of a chunk that is always present.
+// The same of a chunk that is always present: `part` under the reader's name.
 pub fn span(payload: &[u8], s: Span) -> &[u8]
     ensures { Part payload.entry s.at s.len result }
 {

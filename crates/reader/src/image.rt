@@ -1,25 +1,25 @@
 // The record that a header gives, with its chunks placed in the payload.
-ghost use Rattle.std.specs.Prelude.{◌≡◌, ◌+◌, ◌≤◌, T};
-ghost use Rattle.bits.specs.Run.{bit_index, state};
-ghost use Rattle.bits.specs.State.{is_reading_state, clean};
+ghost use Rattle.std.specs.Prelude.{◌≡◌, ◌+◌, ◌≤◌};
+ghost use Rattle.bits.specs.Run.{bit_index};
+ghost use Rattle.bits.specs.State.{clean};
 ghost use Rattle.mini.specs.Chunks.{stored_sizes, stored_spans, span_if};
 ghost use Rattle.mini.specs.Image.{gain_map_of, image_of};
 ghost use Rattle.mini.specs.Cut.{sum};
 ghost use Rattle.mini.specs.Read.{reading_of, read_chunks};
 
-use bits::{BitPos, Bits, ReadError};
+use bits::{BitPos, ReadError};
 use mini::{
     ChunkSizes, ChunkSpans, GainMapHeader, Header, MiniGainMap, MiniHdrBoxes, MinimizedImage, Span,
 };
 
-// The span of a part that has one in every record: at 0 where its owner is absent.
+// The span of a part that has one in every record, so no Option: at 0 where its owner is absent, as the definition has it.
 fn span_if(on: bool, span: Span) -> Span
     ensures { result ≡ span_if on span }
 {
     if on { span } else { Span { at: 0, ..span } }
 }
 
-// The length of all the chunks together.
+// The length of all the chunks together, by name: over an array the sum's bound does not close.
 #[tactic(auto, unfolding(mini::specs::Chunks::stored_sizes))]
 fn chunks_len(z: ChunkSizes) -> usize
     requires { sum (stored_sizes z) ≤ 2952790016 }
@@ -38,7 +38,7 @@ fn chunks_len(z: ChunkSizes) -> usize
         + z.xmp
 }
 
-// The chunks in stored order, the first from the byte `at` on.
+// The chunks in stored order, the first from the byte `at` on: by name, as the definition lists them.
 #[tactic(auto, unfolding(mini::specs::Chunks::stored_sizes, mini::specs::Chunks::stored_spans))]
 fn spans_of(z: ChunkSizes, at: usize) -> ChunkSpans
     requires { at + sum (stored_sizes z) ≤ 18446744073709551615 }
@@ -128,7 +128,7 @@ fn image_of(h: Header, at: usize) -> MinimizedImage
 }
 
 // The record of a header whose chunks begin at the byte boundary `at`.
-fn chunks_from(at: BitPos, payload: &[u8], h: Header) -> Result<MinimizedImage, ReadError>
+pub fn read_chunks(at: BitPos, payload: &[u8], h: Header) -> Result<MinimizedImage, ReadError>
     requires { sum (stored_sizes h.sizes) ≤ 2952790016 }
     ensures { reading_of result ≡ read_chunks payload.now h (clean (bit_index at)) }
 {
@@ -140,13 +140,4 @@ fn chunks_from(at: BitPos, payload: &[u8], h: Header) -> Result<MinimizedImage, 
         return Err(ReadError::ChunkPastEnd);
     }
     Ok(image_of(h, start))
-}
-
-// The record of a header whose chunks begin at the byte boundary of a state, or the refusal that the state has met.
-pub fn read_chunks(b: Bits, payload: &[u8], h: Header) -> Result<MinimizedImage, ReadError>
-    requires sizes_bound { sum (stored_sizes h.sizes) ≤ 2952790016 }
-    requires refusal_bound { T (is_reading_state (state b)) }
-    ensures { reading_of result ≡ read_chunks payload.now h (state b) }
-{
-    chunks_from(b.place()?, payload, h)
 }

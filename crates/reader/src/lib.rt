@@ -18,5 +18,5 @@ pub fn parse(payload: &[u8]) -> Result<MinimizedImage, ReadError>
     ensures { reading_of result ≡ read_mini payload.now }
 {
     let (header, b) = read_header(Bits::new(), payload);
-    read_chunks(read_trailing_bits(b, payload), payload, header)
+    read_chunks(read_trailing_bits(b, payload).place()?, payload, header)
 }

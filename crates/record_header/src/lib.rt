@@ -1,7 +1,9 @@
-// The header of a record, in its narrowest forms: what `MinimizedImage::to_box` of mini.rs decides before it writes.
+// The header of a record, in its narrowest forms: what `MinimizedImage::to_box` of mini.rs decides before it writes. Functions and no `From`, since
+// record and header are types of mini.
 #![tactic(auto)]
 
 ghost use Rattle.std.specs.Prelude.{◌≡◌, ◌-◌, ◌^◌, ltb};
+ghost use Rattle.std.specs.List.{list_any};
 ghost use Rattle.mini.specs.Write.{header_of, not_empty};
 
 use bits::Widths;
@@ -10,24 +12,25 @@ use mini::{
     ITEM_DATA, METADATA, MainFormat, MinimizedImage, chunk_len,
 };
 
+// Whether a chunk has bytes, if it is there.
 pub fn not_empty(c: Chunk) -> bool
     ensures { result ≡ not_empty c }
 {
     c.is_none_or(|x| 0 < x.len)
 }
 
-// Whether a size takes the long form of its field.
-fn is_long(widths: Widths, n: usize) -> bool
-    ensures { result ≡ ltb (2 ^ widths.short - 1) n }
+// A number as it is stored in a field that holds one less.
+fn less1(n: usize) -> usize
+    ensures { result ≡ n - 1 }
 {
-    1 << widths.short <= n
+    n.saturating_sub(1)
 }
 
-// Whether a number that is stored less one does.
-fn is_long_minus1(widths: Widths, n: usize) -> bool
-    ensures { result ≡ ltb (2 ^ widths.short) n }
+// Whether one of the numbers, as they are stored, takes the long form of its field.
+fn any_long(widths: Widths, stored: &[usize]) -> bool
+    ensures { result ≡ list_any (ltb (2 ^ widths.short - 1)) stored.now }
 {
-    1 << widths.short < n
+    stored.iter().any(|&n| 1 << widths.short <= n)
 }
 
 #[tactic(auto, unfolding(mini::specs::Write::header_of, mini::specs::Write::header_with))]
@@ -49,14 +52,22 @@ fn flags_of(i: MinimizedImage) -> Flags
     }
 }
 
+// By `as`: no `From` leads from u32 to usize.
 #[tactic(auto, unfolding(mini::specs::Write::header_of, mini::specs::Write::header_with, mini::specs::Write::least))]
 fn dimensions_of(i: MinimizedImage) -> Dimensions
     ensures { result ≡ (header_of i).dimensions }
 {
     let g = i.gain_map;
-    let is_large = |n| is_long_minus1(DIMENSION, n as usize);
     Dimensions {
-        large: is_large(i.width) || is_large(i.height) || is_large(g.width) || is_large(g.height),
+        large: any_long(
+            DIMENSION,
+            &[
+                less1(i.width as usize),
+                less1(i.height as usize),
+                less1(g.width as usize),
+                less1(g.height as usize),
+            ],
+        ),
         width: i.width,
         height: i.height,
     }
@@ -97,7 +108,7 @@ fn gain_map_header_of(i: MinimizedImage) -> GainMapHeader
     }
 }
 
-#[tactic(auto, unfolding(mini::specs::Write::header_of, mini::specs::Write::header_with, mini::specs::Write::least))]
+#[tactic(auto, unfolding(mini::specs::Write::header_of, mini::specs::Write::header_with, mini::specs::Write::least), using(crate::proofs::Stored::long_forms))]
 fn sizes_of(i: MinimizedImage) -> ChunkSizes
     ensures { result ≡ (header_of i).sizes }
 {
@@ -109,17 +120,28 @@ fn sizes_of(i: MinimizedImage) -> ChunkSizes
     let exif = chunk_len(i.exif);
     let xmp = chunk_len(i.xmp);
     ChunkSizes {
-        large_metadata: is_long_minus1(METADATA, icc)
-            || is_long_minus1(METADATA, tmap_icc)
-            || is_long(METADATA, g.metadata.len)
-            || is_long_minus1(METADATA, exif)
-            || is_long_minus1(METADATA, xmp),
-        large_codec_config: is_long(CODEC_CONFIG, i.main_codec_config.len)
-            || is_long(CODEC_CONFIG, alpha_codec_config)
-            || is_long(CODEC_CONFIG, gain_map_codec_config),
-        large_item_data: is_long_minus1(ITEM_DATA, i.main_data.len)
-            || is_long(ITEM_DATA, i.alpha_data.len)
-            || is_long(ITEM_DATA, g.data.len),
+        large_metadata: any_long(
+            METADATA,
+            &[
+                less1(icc),
+                less1(tmap_icc),
+                g.metadata.len,
+                less1(exif),
+                less1(xmp),
+            ],
+        ),
+        large_codec_config: any_long(
+            CODEC_CONFIG,
+            &[
+                i.main_codec_config.len,
+                alpha_codec_config,
+                gain_map_codec_config,
+            ],
+        ),
+        large_item_data: any_long(
+            ITEM_DATA,
+            &[less1(i.main_data.len), i.alpha_data.len, g.data.len],
+        ),
         icc,
         tmap_icc,
         gain_map_metadata: g.metadata.len,

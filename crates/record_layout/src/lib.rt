@@ -17,6 +17,8 @@ const HDR_BOXES_LEN: usize = 103;
 
 const GAIN_MAP_LEN: usize = 189;
 
+// What is absent is zeros, here and below, by an `if` or a `let .. else` in each function, as in layout: with a closure for what is present,
+// the gain map does not prove.
 #[tactic(auto, using(octets::specs::OverwriteLaws::writes))]
 fn put_codec_types(out: &mut [u8], at: usize, t: Option<CodecTypes>) -> usize
     requires { at + 9 ≤ length out.old }
@@ -83,6 +85,7 @@ fn put_tmap_cicp(out: &mut [u8], at: usize, t: Option<TmapCicp>) -> usize
     put_flag(out, at, tmap.full_range)
 }
 
+// The six by name, here and below: a loop over a list of them names each too, and its bytes take an invariant and a law of the list.
 #[tactic(auto, using(octets::specs::OverwriteLaws::writes), unfolding(crate::specs::RecordBytes::hdr_flag_bytes))]
 fn put_hdr_flags(out: &mut [u8], at: usize, h: MiniHdrBoxes) -> usize
     requires { at + 6 ≤ length out.old }
@@ -223,7 +226,7 @@ pub fn put_record(out: &mut [u8], at: usize, i: MinimizedImage) -> usize
     put_items(out, at, i)
 }
 
-// How many bytes `put_record` writes: the same for each record.
+// How many bytes `put_record` writes: the same for each record. A function beside the constant, since its clause says so of the bytes.
 #[tactic(auto, using(crate::specs::RecordLength::length_record, crate::specs::RecordLength::length_hdr))]
 pub fn record_len(i: MinimizedImage) -> usize
     ensures { (result ≡ length (record_bytes i)) × (result ≡ 441) }

@@ -3,14 +3,15 @@
 
 ghost use Rattle.std.specs.Prelude.{◌≡◌, ℕ};
 
-// What each error type of these crates gives.
+// What each error type of these crates gives. None has a `Display`: outside, a refusal is its number, and what prints words it.
 pub trait Refusal: Copy {
-    // The number of each refusal (document 01).
+    // The number of each refusal (docs/ABI.md).
     ghost number: { Self → ℕ };
 
     // The length that comes with it: the one needed, else 0.
     ghost needed: { Self → ℕ } = { λ _. 0 };
 
+    // Both are numbers, but two facts of an error. `needed` has no provided body: 0 would have to be right for every `needed` that an `impl` states.
     fn number(self) -> u8
         ensures { result ≡ number self };
 

@@ -1,4 +1,5 @@
-// Replays recorded answers of the supplied Rust: each line of a table is one call, and what it answered.
+// Replays recorded answers of the supplied Rust: each line of a table is one call, and what it answered. By `as`: no `From` leads from u64 to usize
+// or back.
 #![tactic(auto)]
 
 use anyhow::Context;

@@ -3,18 +3,18 @@ use Rattle.std.specs.Prelude.{◌≡◌, refl, Bool, cond, List, [], ◌∷◌, 
 use Rattle.std.specs.List.{sum_by}
 use Rattle.std.proofs.Common.{sym, append-nil, add-one, length-append}
 use Rattle.std.proofs.lemmas.Simd.{map-map}
-use Rattle.std.proofs.lemmas.List.Sums.{sum_by_more, sum_by_more_le}
+use Rattle.std.proofs.lemmas.List.Sums.{sum_by-cons, sum_by_more, sum_by_more_le}
 use Rattle.octets.specs.OverwriteLaws.{nothing, overwrite_cons, overwrite-append}
 use Rattle.boxes.specs.Boxed.{length-box_header}
-use Rattle.mini.specs.Cut.{joined_more}
+use Rattle.mini.specs.Cut.{sum, joined_more}
 use Rattle.properties.specs.declared.hdr_boxes.HdrBox.{HdrBox}
 use Rattle.slots.specs.declared.associations.TheConstants.{MAIN_ROW, ALPHA_ROW, TMAP_ROW, GAIN_MAP_ROW}
 use Rattle.slots.specs.Associations.{is_kept, kept, main_row, alpha_row, tmap_row, gain_map_row}
 use Rattle.slots.specs.AssociationLaws.{kept_more, kept_room, length-kept}
 use Rattle.slots.specs.Bounds.{kept_most, ipma-body_most}
-use Rattle.slots.specs.HdrSlots.{hdr_slot, hdr_slot_len}
+use Rattle.slots.specs.Lengths.{hdr_slot_len}
 use Rattle.slots.specs.SlotLaws.{slots-append, unused_more, and-true, used_slots_lem}
-use Rattle.slots.specs.Slots.{none, free, slot_bytes, slots_bytes}
+use Rattle.slots.specs.Slots.{none, free, slot_bytes, hdr_slot, slots_bytes}
 
 -- slots written one after another
 pub ruleset slot_writes = (overwrite_cons, overwrite-append, length-append, append-nil, slots-append)
@@ -45,6 +45,11 @@ len_more boxes i h = sum_by_more hdr_slot_len boxes i None h
 pub room : (boxes : List (Option HdrBox)) (i : ℕ) → i < length boxes
     → sum_by hdr_slot_len (take i boxes) + hdr_slot_len (get_or boxes i None) ≤ sum_by hdr_slot_len boxes
 room boxes i h = sum_by_more_le hdr_slot_len boxes i None h
+
+-- the two ways to add them up
+pub lens_summed : (boxes : List (Option HdrBox)) → sum (map hdr_slot_len boxes) ≡ sum_by hdr_slot_len boxes
+lens_summed [] = refl
+lens_summed (held ∷ boxes) = rw (lens_summed boxes, sum_by-cons) refl
 
 pub ruleset hdr_writes = (nothing, overwrite-append, length-append, no_slots, boxes_more, len_more, room)
 

@@ -1,5 +1,6 @@
 -- The most that each length can be, where the lengths of the chunks are within their fields.
 use Rattle.std.specs.Prelude.{Bool, true, false, not, cond, ◌||◌, List, [], ◌∷◌, ℕ, ◌+◌, ◌≤◌, eqb, length, Option, Some, None, is_some}
+use Rattle.std.specs.Bool.{then_some}
 use Rattle.std.proofs.Common.{arith, lit≤, length-append}
 use Rattle.mini.specs.Cut.{sum}
 use Rattle.mini.specs.Same.{chunk_len}
@@ -7,12 +8,14 @@ use Rattle.mini.specs.declared.MiniChroma.{MiniChroma}
 use Rattle.mini.specs.declared.MiniHdrBoxes.{MiniHdrBoxes}
 use Rattle.mini.specs.declared.MinimizedImage.{MinimizedImage}
 use Rattle.octets.specs.declared.Span.{Span}
-use Rattle.properties.specs.HdrBoxes.{cclv_len}
+use Rattle.properties.specs.HdrBoxes.{hdr_box_len}
 use Rattle.properties.specs.Lengths.{cclv_len_most}
 use Rattle.properties.specs.Orientation.{turns_of}
 use Rattle.properties.specs.Pixi.{Channel, channels_of, pixi_len}
+use Rattle.properties.specs.declared.hdr_boxes.HdrBox.{HdrBox}
+use Rattle.properties.specs.declared.hdr_boxes.HdrBox.TheVariants.{Clli, Mdcv, Cclv, Amve, Reve, Ndwt}
 use Rattle.slots.specs.Associations.{is_kept, kept, main_row, alpha_row, tmap_row, gain_map_row}
-use Rattle.slots.specs.Lengths.{prof_slot_len, turn_slot_len, if_there_len, main_lens, alpha_lens, orientation_lens, hdr_lens, gain_map_lens, tmap_lens, picture_len, tone_map_len, ipco_len, row_len, ipma_body_len, iprp_len}
+use Rattle.slots.specs.Lengths.{prof_slot_len, turn_slot_len, hdr_slot_len, if_there_len, main_lens, alpha_lens, orientation_lens, hdr_lens, gain_map_lens, tmap_lens, picture_len, tone_map_len, ipco_len, row_len, ipma_body_len, iprp_len}
 use Rattle.slots.specs.Used.{used_slots}
 use Rattle.slots.specs.Slots.{has_alpha_item, has_gain_map_item}
 use Rattle.slots.specs.Sound.{Bounded, config_most}
@@ -36,16 +39,20 @@ pixi_of false a b d = lit≤ tt
 pub pixi_most : (c : MiniChroma) → pixi_len (channels_of c) ≤ 22
 pixi_most c = pixi_of (eqb c.subsampling 0) _ _ _
 
+held_most : (t : Bool) (held : HdrBox) (m : ℕ) → hdr_box_len held ≤ m → 8 ≤ m → hdr_slot_len (then_some t held) ≤ m
+held_most true held m p q = p
+held_most false held m p q = q
+
 pub hdr_most : (h : MiniHdrBoxes) → sum (hdr_lens h) ≤ 153
 hdr_most h =
     omega (
       arith,
-      cond_most h.has_clli 12 8 12 (lit≤ tt) (lit≤ tt),
-      cond_most h.has_mdcv 32 8 32 (lit≤ tt) (lit≤ tt),
-      cond_most h.has_cclv (cclv_len h.cclv) 8 45 (cclv_len_most h.cclv) (lit≤ tt),
-      cond_most h.has_amve 16 8 16 (lit≤ tt) (lit≤ tt),
-      cond_most h.has_reve 32 8 32 (lit≤ tt) (lit≤ tt),
-      cond_most h.has_ndwt 16 8 16 (lit≤ tt) (lit≤ tt),
+      held_most h.has_clli (Clli h.clli) 12 (lit≤ tt) (lit≤ tt),
+      held_most h.has_mdcv (Mdcv h.mdcv) 32 (lit≤ tt) (lit≤ tt),
+      held_most h.has_cclv (Cclv h.cclv) 45 (cclv_len_most h.cclv) (lit≤ tt),
+      held_most h.has_amve (Amve h.amve) 16 (lit≤ tt) (lit≤ tt),
+      held_most h.has_reve (Reve h.reve) 32 (lit≤ tt) (lit≤ tt),
+      held_most h.has_ndwt (Ndwt h.ndwt) 16 (lit≤ tt) (lit≤ tt),
     )
 
 module _ (i : MinimizedImage) (b : Bounded i) where

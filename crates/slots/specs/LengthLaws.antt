@@ -1,5 +1,6 @@
 -- 'ipco', 'ipma' and 'iprp' are as long as the record alone says, where its chunks lie in the source.
 use Rattle.std.specs.Prelude.{◌≡◌, Bool, true, false, ◌||◌, List, [], ◌++◌, ℕ, zero, suc, ◌*◌, ltb, length, drop, replicate, Option, Some, None, is_some}
+use Rattle.std.specs.Bool.{then_some}
 use Rattle.std.proofs.Math.Path.{refl}
 use Rattle.std.proofs.Common.{◌∙◌, arith, ltb-false, length-drop, length-take-le}
 use Rattle.std.proofs.Math.Bool.{not}
@@ -14,14 +15,16 @@ use Rattle.mini.specs.declared.MiniHdrBoxes.{MiniHdrBoxes}
 use Rattle.mini.specs.declared.MinimizedImage.{MinimizedImage}
 use Rattle.octets.specs.declared.Span.{Span}
 use Rattle.mini.specs.declared.TmapCicp.{TmapCicp}
-use Rattle.properties.specs.HdrBoxes.{clli, clli_len, mdcv, mdcv_len, cclv, cclv_len, amve, amve_len, reve, reve_len, ndwt, ndwt_len}
+use Rattle.properties.specs.HdrBoxes.{hdr_box, hdr_box_len}
 use Rattle.properties.specs.Lengths.{length-ispe, length-nclx, length-prof, length-codec_config, length-aux_c, length-irot, length-imir, length-pixi, length-clli, length-mdcv, length-cclv, length-amve, length-reve, length-ndwt}
 use Rattle.properties.specs.Property.{ispe_len, nclx_len, codec_config}
+use Rattle.properties.specs.declared.hdr_boxes.HdrBox.{HdrBox}
+use Rattle.properties.specs.declared.hdr_boxes.HdrBox.TheVariants.{Clli, Mdcv, Cclv, Amve, Reve, Ndwt}
 use Rattle.slots.specs.Associations.{row, row_if, ipma_body, ipma_with, ipma, iprp}
 use Rattle.slots.specs.Bodies.{Bodies}
-use Rattle.slots.specs.Lengths.{only_if_len, config_slot_len, prof_slot_len, turn_slot_len, if_there_len, main_lens, alpha_lens, orientation_lens, hdr_lens, gain_map_lens, tmap_lens, picture_len, tone_map_len, ipco_len, row_len, row_if_len, ipma_len, iprp_len}
+use Rattle.slots.specs.Lengths.{only_if_len, config_slot_len, prof_slot_len, turn_slot_len, hdr_slot_len, if_there_len, main_lens, alpha_lens, orientation_lens, hdr_lens, gain_map_lens, tmap_lens, picture_len, tone_map_len, ipco_len, row_len, row_if_len, ipma_len, iprp_len}
 use Rattle.slots.specs.SlotLaws.{slots-append, used_slots_lem}
-use Rattle.slots.specs.Slots.{Slot, none, free, slot_bytes, only_if, if_there, has_alpha_item, has_gain_map_item, config_type, alpha_config, gain_map_config, config_slot, prof_slot, irot_slot, imir_slot, tmap_nclx, shown_ispe, main_slots, alpha_slots, orientation_slots, hdr_slots, gain_map_slots, tmap_slots, picture_slots, tone_map_slots, slots, slots_bytes, ipco}
+use Rattle.slots.specs.Slots.{Slot, none, free, slot_bytes, only_if, if_there, has_alpha_item, has_gain_map_item, config_type, alpha_config, gain_map_config, config_slot, prof_slot, irot_slot, imir_slot, tmap_nclx, hdr_slot, shown_ispe, main_slots, alpha_slots, orientation_slots, hdr_slots, gain_map_slots, tmap_slots, picture_slots, tone_map_slots, slots, slots_bytes, ipco}
 use Rattle.slots.specs.Sound.{SpanPlaced, ChunkPlaced, Sound, config_placed}
 
 -- ---- one slot
@@ -74,15 +77,19 @@ length_there : (t : Bool) (l : List Slot) (lens : List ℕ) → length l ≡ len
 length_there true l lens n e = e
 length_there false l lens n e = length_unused (length l) ∙ rw n
 
+length_held : (t : Bool) (held : HdrBox) → length (hdr_box held) ≡ hdr_box_len held → length (slot_bytes (hdr_slot (then_some t held))) ≡ hdr_slot_len (then_some t held)
+length_held true held e = e
+length_held false held e = length-free
+
 length_hdr : (h : MiniHdrBoxes) → Bodies h → length (slots_bytes (hdr_slots h)) ≡ sum (hdr_lens h)
 unfolding hdr_slots slots_bytes
 length_hdr h b =
-    let a = length_only h.has_clli (clli h.clli) clli_len (length-clli h.clli b.clli_length) in
-    let m = length_only h.has_mdcv (mdcv h.mdcv) mdcv_len (length-mdcv h.mdcv b.mdcv_length) in
-    let c = length_only h.has_cclv (cclv h.cclv) (cclv_len h.cclv) (length-cclv h.cclv b.cclv_length) in
-    let v = length_only h.has_amve (amve h.amve) amve_len (length-amve h.amve b.amve_length) in
-    let r = length_only h.has_reve (reve h.reve) reve_len (length-reve h.reve b.reve_length) in
-    let n = length_only h.has_ndwt (ndwt h.ndwt) ndwt_len (length-ndwt h.ndwt b.ndwt_length) in
+    let a = length_held h.has_clli (Clli h.clli) (length-clli h.clli b.clli_length) in
+    let m = length_held h.has_mdcv (Mdcv h.mdcv) (length-mdcv h.mdcv b.mdcv_length) in
+    let c = length_held h.has_cclv (Cclv h.cclv) (length-cclv h.cclv b.cclv_length) in
+    let v = length_held h.has_amve (Amve h.amve) (length-amve h.amve b.amve_length) in
+    let r = length_held h.has_reve (Reve h.reve) (length-reve h.reve b.reve_length) in
+    let n = length_held h.has_ndwt (Ndwt h.ndwt) (length-ndwt h.ndwt b.ndwt_length) in
     simp (length-append, a, m, c, v, r, n)
 
 module _ (i : MinimizedImage) (s : List ℕ) (o : Sound i s) where

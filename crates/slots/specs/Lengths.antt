@@ -1,16 +1,17 @@
 -- How long 'ipco', 'ipma' and 'iprp' are: from the record alone, slot by slot as in Slots.antt.
-use Rattle.std.specs.Prelude.{Bool, not, cond, ◌||◌, List, [], ◌∷◌, ℕ, ◌+◌, ◌*◌, length, Option, Some, None, is_some}
+use Rattle.std.specs.Prelude.{Bool, not, cond, ◌||◌, List, [], ◌∷◌, map, ℕ, ◌+◌, ◌*◌, length, Option, Some, None, is_some}
 use Rattle.mini.specs.Cut.{sum}
 use Rattle.mini.specs.declared.MiniHdrBoxes.{MiniHdrBoxes}
 use Rattle.mini.specs.declared.MinimizedImage.{MinimizedImage}
 use Rattle.octets.specs.declared.Span.{Span}
 use Rattle.mini.specs.declared.TmapCicp.{TmapCicp}
-use Rattle.properties.specs.HdrBoxes.{clli_len, mdcv_len, cclv_len, amve_len, reve_len, ndwt_len}
+use Rattle.properties.specs.HdrBoxes.{hdr_box_len}
 use Rattle.properties.specs.Orientation.{turns_of}
 use Rattle.properties.specs.Pixi.{channels_of, alpha_channels, pixi_len}
 use Rattle.properties.specs.Property.{ispe_len, nclx_len, prof_len, codec_config_len, aux_c_len, turn_len}
+use Rattle.properties.specs.declared.hdr_boxes.HdrBox.{HdrBox}
 use Rattle.slots.specs.Associations.{kept, main_row, alpha_row, tmap_row, gain_map_row}
-use Rattle.slots.specs.Slots.{has_alpha_item, has_gain_map_item, alpha_config, gain_map_config}
+use Rattle.slots.specs.Slots.{has_alpha_item, has_gain_map_item, alpha_config, gain_map_config, hdr_boxes}
 use Rattle.slots.specs.Used.{used_slots}
 
 -- ---- the kinds of slots; an unused one takes the eight bytes of an empty box
@@ -32,6 +33,10 @@ turn_slot_len (Some turn) = turn_len
 abbrev pub tmap_nclx_slot_len : Option TmapCicp → Option Span → ℕ
 tmap_nclx_slot_len cicp icc = only_if_len (is_some cicp || not (is_some icc)) nclx_len
 
+abbrev pub hdr_slot_len : Option HdrBox → ℕ
+hdr_slot_len None = 8
+hdr_slot_len (Some held) = hdr_box_len held
+
 abbrev pub if_there_len : Bool → List ℕ → ℕ
 if_there_len t lens = cond t (sum lens) (8 * length lens)
 
@@ -47,14 +52,7 @@ abbrev pub orientation_lens : MinimizedImage → List ℕ
 orientation_lens i = turn_slot_len (turns_of i.orientation).angle ∷ turn_slot_len (turns_of i.orientation).axis ∷ []
 
 abbrev pub hdr_lens : MiniHdrBoxes → List ℕ
-hdr_lens h =
-    only_if_len h.has_clli clli_len
-    ∷ only_if_len h.has_mdcv mdcv_len
-    ∷ only_if_len h.has_cclv (cclv_len h.cclv)
-    ∷ only_if_len h.has_amve amve_len
-    ∷ only_if_len h.has_reve reve_len
-    ∷ only_if_len h.has_ndwt ndwt_len
-    ∷ []
+hdr_lens h = map hdr_slot_len (hdr_boxes h)
 
 abbrev pub gain_map_lens : MinimizedImage → List ℕ
 gain_map_lens i = config_slot_len (gain_map_config i) ∷ ispe_len ∷ pixi_len (channels_of i.gain_map.chroma) ∷ nclx_len ∷ []

@@ -8,4 +8,3 @@ pub mod SlotLaws
 pub mod Slots
 pub mod Sound
 pub mod Used
-pub mod HdrSlots

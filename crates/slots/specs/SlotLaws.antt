@@ -1,14 +1,16 @@
 -- Laws of the slots: how they are joined, how many there are, and which are used.
 use Rattle.std.specs.Prelude.{◌≡◌, refl, Bool, true, false, ◌&&◌, List, [], ◌∷◌, ◌++◌, map, ℕ, zero, suc, ◌+◌, length, replicate, Option, Some, None, is_some}
+use Rattle.std.specs.Bool.{then_some}
 use Rattle.std.proofs.Common.{sym, ap, ◌∙◌, append-nil, append_assoc, add-zero, length-append}
 use Rattle.std.proofs.lemmas.List.{length-replicate}
 use Rattle.octets.specs.Overwrite.{Wrote}
 use Rattle.octets.specs.OverwriteLaws.{then, recast}
 use Rattle.mini.specs.declared.MiniHdrBoxes.{MiniHdrBoxes}
 use Rattle.mini.specs.declared.MinimizedImage.{MinimizedImage}
+use Rattle.properties.specs.declared.hdr_boxes.HdrBox.{HdrBox}
 use Rattle.slots.specs.Associations.{used_by}
 use Rattle.slots.specs.Used.{used_if, main_used, alpha_used, orientation_used, hdr_used, gain_map_used, tmap_used, used_slots}
-use Rattle.slots.specs.Slots.{Slot, none, is_used, free, slot_bytes, only_if, if_there, turn_slot, main_slots, alpha_slots, orientation_slots, hdr_slots, gain_map_slots, tmap_slots, picture_slots, tone_map_slots, slots, slots_bytes}
+use Rattle.slots.specs.Slots.{Slot, none, is_used, free, slot_bytes, only_if, if_there, turn_slot, hdr_slot, main_slots, alpha_slots, orientation_slots, hdr_slots, gain_map_slots, tmap_slots, picture_slots, tone_map_slots, slots, slots_bytes}
 
 -- ---- joined
 pub slots-append : (xs ys : List Slot) → slots_bytes (xs ++ ys) ≡ slots_bytes xs ++ slots_bytes ys
@@ -67,9 +69,13 @@ used_there true (x ∷ l) = ap (λ (m : List Bool). is_used x ∷ m) (used_there
 used_there false [] = refl
 used_there false (x ∷ l) = ap (λ (m : List Bool). false ∷ m) (used_there false l)
 
+used_held : (t : Bool) (held : HdrBox) → is_used (hdr_slot (then_some t held)) ≡ t
+used_held true held = refl
+used_held false held = refl
+
 used_hdr : (h : MiniHdrBoxes) → map is_used (hdr_slots h) ≡ hdr_used h
 unfolding hdr_slots
-used_hdr h = simp used_only
+used_hdr h = simp used_held
 
 used_main : (i : MinimizedImage) (s : List ℕ) → map is_used (main_slots i s) ≡ main_used i
 unfolding main_slots

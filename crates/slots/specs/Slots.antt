@@ -16,6 +16,7 @@
 --     24 to 29    the HDR boxes                 a gain map, and it holds the body
 --     30, 31, 32  none                          never
 use Rattle.std.specs.Prelude.{Bool, true, false, not, ◌&&◌, ◌||◌, List, [], ◌∷◌, ◌++◌, map, ℕ, ltb, length, replicate, Option, Some, None, is_some}
+use Rattle.std.specs.Bool.{then_some}
 use Rattle.boxes.specs.Boxed.{boxed}
 use Rattle.mini.specs.Cicp.{cicp_of}
 use Rattle.mini.specs.Cut.{joined}
@@ -26,10 +27,12 @@ use Rattle.mini.specs.declared.MiniHdrBoxes.{MiniHdrBoxes}
 use Rattle.mini.specs.declared.MinimizedImage.{MinimizedImage}
 use Rattle.octets.specs.declared.Span.{Span}
 use Rattle.mini.specs.declared.TmapCicp.{TmapCicp}
-use Rattle.properties.specs.HdrBoxes.{clli, mdcv, cclv, amve, reve, ndwt}
+use Rattle.properties.specs.HdrBoxes.{hdr_box}
 use Rattle.properties.specs.Orientation.{turns_of}
 use Rattle.properties.specs.Pixi.{channels_of, alpha_channels, pixi}
 use Rattle.properties.specs.Property.{ispe, nclx, prof, codec_config, aux_c, irot, imir}
+use Rattle.properties.specs.declared.hdr_boxes.HdrBox.{HdrBox}
+use Rattle.properties.specs.declared.hdr_boxes.HdrBox.TheVariants.{Clli, Mdcv, Cclv, Amve, Reve, Ndwt}
 
 -- a property's box, or none
 pub data Slot : Type 0 where
@@ -106,6 +109,22 @@ tmap_nclx (Some c) = nclx c.cicp.primaries c.cicp.transfer c.cicp.matrix c.full_
 abbrev pub tmap_nclx_slot : Option TmapCicp → Option Span → Slot
 tmap_nclx_slot cicp icc = only_if (is_some cicp || not (is_some icc)) (tmap_nclx cicp)
 
+-- an HDR box that the record holds
+abbrev pub hdr_slot : Option HdrBox → Slot
+hdr_slot None = none
+hdr_slot (Some held) = some (hdr_box held)
+
+-- the HDR boxes that a record holds, in the order of their slots
+abbrev pub hdr_boxes : MiniHdrBoxes → List (Option HdrBox)
+hdr_boxes h =
+    then_some h.has_clli (Clli h.clli)
+    ∷ then_some h.has_mdcv (Mdcv h.mdcv)
+    ∷ then_some h.has_cclv (Cclv h.cclv)
+    ∷ then_some h.has_amve (Amve h.amve)
+    ∷ then_some h.has_reve (Reve h.reve)
+    ∷ then_some h.has_ndwt (Ndwt h.ndwt)
+    ∷ []
+
 -- ---- the table
 -- 1 to 5, the main picture: configuration, size, channels, colour, profile
 unfoldable pub main_slots : MinimizedImage → List ℕ → List Slot
@@ -131,14 +150,7 @@ orientation_slots i = irot_slot (turns_of i.orientation).angle ∷ imir_slot (tu
 
 -- 11 to 16, and 24 to 29 for the tone map
 unfoldable pub hdr_slots : MiniHdrBoxes → List Slot
-hdr_slots h =
-    only_if h.has_clli (clli h.clli)
-    ∷ only_if h.has_mdcv (mdcv h.mdcv)
-    ∷ only_if h.has_cclv (cclv h.cclv)
-    ∷ only_if h.has_amve (amve h.amve)
-    ∷ only_if h.has_reve (reve h.reve)
-    ∷ only_if h.has_ndwt (ndwt h.ndwt)
-    ∷ []
+hdr_slots h = map hdr_slot (hdr_boxes h)
 
 -- 17 to 20, the gain map: configuration, size, channels, colour
 unfoldable pub gain_map_slots : MinimizedImage → List ℕ → List Slot

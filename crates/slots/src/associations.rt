@@ -74,7 +74,7 @@ pub const GAIN_MAP_ROW: Row<6> = Row {
     ],
 };
 
-// Which slots are used, by number; they are counted from 1, and 0 is none.
+// Which slots are used, by number; they are counted from 1, and 0 is none. An array: there are always so many, and nothing here is allocated.
 #[derive(Clone, Copy, Debug, PartialEq, Eq)]
 pub struct UsedSlots(pub [bool; 33]);
 
@@ -101,6 +101,8 @@ impl UsedSlots {
     }
 }
 
+// All 32 by number, as the table at the head of specs/Slots lists them: put together from groups, as in the definition, it would hide the numbers.
+// No `From`, which asks nothing of its argument.
 #[tactic(auto, using(crate::proofs::Laws::used_laws), unfolding(crate::specs::Used::used_slots))]
 pub fn used_slots(image: MinimizedImage) -> UsedSlots
     requires { Bounded image }
@@ -121,7 +123,7 @@ pub fn used_slots(image: MinimizedImage) -> UsedSlots
         true,
         image.icc.is_some(),
         // 6 to 8, alpha.
-        alpha & (0 < alpha_config(image).len),
+        alpha && 0 < alpha_config(image).len,
         alpha,
         alpha,
         // 9 and 10, its orientation.
@@ -135,20 +137,20 @@ pub fn used_slots(image: MinimizedImage) -> UsedSlots
         main.has_reve,
         main.has_ndwt,
         // 17 to 20, the gain map.
-        gain_map & (0 < gain_map_config(image).len),
+        gain_map && 0 < gain_map_config(image).len,
         gain_map,
         gain_map,
         gain_map,
         // 21 to 29, the tone map.
         tone_map,
-        tone_map & has_tmap_nclx(g.tmap_cicp, g.tmap_icc),
-        tone_map & g.tmap_icc.is_some(),
-        tone_map & g.tmap_hdr.has_clli,
-        tone_map & g.tmap_hdr.has_mdcv,
-        tone_map & g.tmap_hdr.has_cclv,
-        tone_map & g.tmap_hdr.has_amve,
-        tone_map & g.tmap_hdr.has_reve,
-        tone_map & g.tmap_hdr.has_ndwt,
+        tone_map && has_tmap_nclx(g.tmap_cicp, g.tmap_icc),
+        tone_map && g.tmap_icc.is_some(),
+        tone_map && g.tmap_hdr.has_clli,
+        tone_map && g.tmap_hdr.has_mdcv,
+        tone_map && g.tmap_hdr.has_cclv,
+        tone_map && g.tmap_hdr.has_amve,
+        tone_map && g.tmap_hdr.has_reve,
+        tone_map && g.tmap_hdr.has_ndwt,
         // 30 to 32 have no property.
         false,
         false,
@@ -174,6 +176,7 @@ fn put_kept(out: &mut [u8], at: usize, used: UsedSlots, associations: &[u8]) -> 
     requires { at + length (kept used.0 associations.now) ≤ length out.old }
     ensures { Wrote out.old at (length (kept used.0 associations.now)) (kept used.0 associations.now) out.new result }
 {
+    // A loop, here and in slot.rt and groups.rt: after a `fold` nothing is known of an output that its closure changes.
     let mut next = at;
     for &association in associations {
         next = put_association(out, next, used, association);
@@ -188,6 +191,7 @@ fn put_row<const N: usize>(out: &mut [u8], at: usize, used: UsedSlots, item_row:
 {
     let n = used.count(&item_row.associations);
     let at = put::<2>(out, at, u64::from(item_row.item.0));
+    // `as`: a `usize` has no `From` to another number.
     let at = put_u8(out, at, n as u8);
     put_kept(out, at, used, &item_row.associations)
 }
@@ -210,6 +214,7 @@ fn put_row_if<const N: usize>(
     }
 }
 
+// Flag by flag: counted in an array, the three would take a function more, whose clause names the count.
 fn row_count(image: MinimizedImage) -> u32
     ensures { result ≡ row_count image }
 {

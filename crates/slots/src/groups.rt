@@ -3,9 +3,8 @@ ghost use Rattle.std.specs.Prelude.{◌≡◌, ◌+◌, ◌≤◌, ◌<◌, leng
 ghost use Rattle.std.specs.List.{sum_by};
 ghost use Rattle.octets.specs.Overwrite.{Wrote};
 ghost use Rattle.mini.specs.Cut.{sum};
-ghost use Rattle.slots.specs.HdrSlots.{hdr_boxes, hdr_slot, hdr_slot_len};
-ghost use Rattle.slots.specs.Lengths.{if_there_len, main_lens, alpha_lens, orientation_lens, hdr_lens, gain_map_lens, tmap_lens, picture_len, tone_map_len, ipco_len};
-ghost use Rattle.slots.specs.Slots.{has_alpha_item, has_gain_map_item, config_type, alpha_config, gain_map_config, if_there, main_slots, alpha_slots, orientation_slots, hdr_slots, gain_map_slots, tmap_slots, picture_slots, tone_map_slots, slots, slots_bytes, ipco};
+ghost use Rattle.slots.specs.Lengths.{hdr_slot_len, if_there_len, main_lens, alpha_lens, orientation_lens, hdr_lens, gain_map_lens, tmap_lens, picture_len, tone_map_len, ipco_len};
+ghost use Rattle.slots.specs.Slots.{has_alpha_item, has_gain_map_item, config_type, alpha_config, gain_map_config, if_there, hdr_slot, hdr_boxes, main_slots, alpha_slots, orientation_slots, hdr_slots, gain_map_slots, tmap_slots, picture_slots, tone_map_slots, slots, slots_bytes, ipco};
 ghost use Rattle.slots.specs.Sound.{Bounded, Sound};
 
 use crate::slot::{
@@ -43,7 +42,7 @@ fn config_type(types: Option<CodecTypes>) -> FourCc
     types.map_or(0, |types| types.codec_config_type)
 }
 
-// The configuration of alpha: its own, else the main picture's.
+// The configuration of alpha: its own, else the main picture's. One function for alpha and gain map would only be `unwrap_or` under another name.
 pub fn alpha_config(image: MinimizedImage) -> Span
     ensures { result ≡ alpha_config image }
 {
@@ -87,7 +86,7 @@ fn put_alpha_item_slots(out: &mut [u8], at: usize, image: MinimizedImage, source
     put_alpha_pixi(out, at, image.format)
 }
 
-// 6 to 8. Here and below, which slots stay unused is said by an `if`: one function for all would take a closure (`len_if`, items).
+// 6 to 8. Here, below and in associations.rt an `if` says what is left out: one function for all would take a closure (`len_if`, items).
 #[tactic(auto, unfolding(crate::specs::Slots::alpha_slots))]
 fn put_alpha_slots(out: &mut [u8], at: usize, image: MinimizedImage, source: &[u8]) -> usize
     requires { (at + if_there_len (has_alpha_item image) (alpha_lens image) ≤ length out.old) × Sound image source.now }
@@ -138,7 +137,7 @@ fn put_hdr_boxes(out: &mut [u8], at: usize, boxes: &[Option<HdrBox>]) -> usize
 }
 
 // 11 to 16, or 24 to 29.
-#[tactic(auto, using(crate::specs::HdrSlots::hdr_slots_are, crate::specs::HdrSlots::hdr_lens_are))]
+#[tactic(auto, using(crate::proofs::Laws::lens_summed), unfolding(crate::specs::Slots::hdr_slots))]
 fn put_hdr_slots(out: &mut [u8], at: usize, h: MiniHdrBoxes) -> usize
     requires { at + sum (hdr_lens h) ≤ length out.old }
     ensures { Wrote out.old at (sum (hdr_lens h)) (slots_bytes (hdr_slots h)) out.new result }

@@ -1,12 +1,11 @@
-// How long 'iprp' is, from the record alone. `Bounded image` stands in the contracts here, `Sound image source.now` in those of the writers beside:
-// as a ghost field of a struct each proves too, but then each use of the record is a field of that struct, and the contracts and bodies grow by
-// more than the clause.
+// How long 'iprp' is, from the record alone. `Bounded image` stands in each contract here, `Sound image source.now` in those of the writers: a struct
+// with that as a ghost field proves too, but each use of the record then goes through the struct, which takes more text than the clause.
+// Each length is a sum, an `if` or a choice as its slots are in groups.rt and slot.rt, and as its definition is.
 ghost use Rattle.std.specs.Prelude.{◌≡◌, ◌+◌, ◌≤◌, length};
 ghost use Rattle.std.specs.List.{sum_by};
 ghost use Rattle.mini.specs.Cut.{sum};
 ghost use Rattle.mini.specs.Same.{chunk_len};
-ghost use Rattle.slots.specs.HdrSlots.{hdr_slot_len};
-ghost use Rattle.slots.specs.Lengths.{config_slot_len, prof_slot_len, turn_slot_len, tmap_nclx_slot_len, if_there_len, main_lens, alpha_lens, orientation_lens, hdr_lens, gain_map_lens, tmap_lens, picture_len, tone_map_len, row_len, row_if_len, ipma_body_len, ipma_len, iprp_len};
+ghost use Rattle.slots.specs.Lengths.{config_slot_len, prof_slot_len, turn_slot_len, tmap_nclx_slot_len, hdr_slot_len, if_there_len, main_lens, alpha_lens, orientation_lens, hdr_lens, gain_map_lens, tmap_lens, picture_len, tone_map_len, row_len, row_if_len, ipma_body_len, ipma_len, iprp_len};
 ghost use Rattle.slots.specs.Slots.{has_alpha_item, has_gain_map_item};
 ghost use Rattle.slots.specs.Sound.{Bounded};
 
@@ -89,7 +88,7 @@ fn hdr_boxes_len(boxes: &[Option<HdrBox>]) -> usize
     boxes.iter().map(|held| hdr_slot_len(*held)).sum()
 }
 
-#[tactic(auto, using(crate::specs::HdrSlots::hdr_lens_are, crate::specs::Bounds::hdr_most))]
+#[tactic(auto, using(crate::proofs::Laws::lens_summed, crate::specs::Bounds::hdr_most))]
 fn hdr_len(h: MiniHdrBoxes) -> usize
     ensures { (result ≡ sum (hdr_lens h)) × (result ≤ 153) }
 {

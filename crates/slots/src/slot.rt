@@ -1,11 +1,11 @@
-// One slot of 'ipco': a property's box, or an empty 'free'.
+// One slot of 'ipco': a property's box, or an empty 'free'. Which of them is said by a `match`: `map_or_else` takes two closures, of which only one
+// could have the output lent.
 ghost use Rattle.std.specs.Prelude.{◌≡◌, ◌||◌, not, is_some, ◌+◌, ◌*◌, ◌≤◌, ◌<◌, ltb, length, replicate};
 ghost use Rattle.octets.specs.Overwrite.{Wrote};
 ghost use Rattle.mini.specs.Same.{chunk_len, span_bytes};
 ghost use Rattle.properties.specs.Property.{codec_config, turn_box};
-ghost use Rattle.slots.specs.HdrSlots.{hdr_slot, hdr_slot_len};
-ghost use Rattle.slots.specs.Lengths.{config_slot_len, prof_slot_len, turn_slot_len, tmap_nclx_slot_len};
-ghost use Rattle.slots.specs.Slots.{none, free, slot_bytes, only_if, prof_slot, turn_slot, tmap_nclx_slot, slots_bytes};
+ghost use Rattle.slots.specs.Lengths.{config_slot_len, prof_slot_len, turn_slot_len, tmap_nclx_slot_len, hdr_slot_len};
+ghost use Rattle.slots.specs.Slots.{none, free, slot_bytes, only_if, prof_slot, turn_slot, tmap_nclx_slot, hdr_slot, slots_bytes};
 ghost use Rattle.slots.specs.Sound.{SpanPlaced, ChunkPlaced};
 
 use boxes::{FourCc, put_box_header};
@@ -91,7 +91,8 @@ pub fn put_turn_slot(out: &mut [u8], at: usize, box_type: FourCc, turn: Option<u
     }
 }
 
-// Whether the tone map has a colour slot: its colour is told, or there is no profile.
+// Whether the tone map has a colour slot: its colour is told, or there is no profile. The two are parameters, here and below, as in the definitions:
+// of a whole gain map more would be asked.
 pub fn has_tmap_nclx(cicp: Option<TmapCicp>, icc: Chunk) -> bool
     ensures { result ≡ (is_some cicp || not (is_some icc)) }
 {

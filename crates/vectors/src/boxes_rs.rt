@@ -52,6 +52,7 @@ const HEADERS: [(&str, &[u8], usize); 16] = [
 
 pub fn headers(rt: &impl Print) -> io::Result<()> {
     for (label, buf, start) in HEADERS {
+        // What is printed in either case: of a refused header all but the number is 0.
         let (refusal, at, len) = match parse_box_header(buf, start) {
             Ok(header) => (0, header.payload_start, header.payload_len),
             Err(error) => (error.number(), 0, 0),
@@ -100,8 +101,8 @@ fn put_boxes(out: &mut [u8]) -> usize
     requires { 23 ≤ length out.old }
 {
     let len = body(&mut out[9..]);
-    let at = boxes::put_box_header(out, 1, len, 0x66756c6c);
-    boxes::put_box_header(out, at, 0, 0x66726565)
+    let at = boxes::put_box_header(out, 1, len, u32::from_be_bytes(*b"full"));
+    boxes::put_box_header(out, at, 0, u32::from_be_bytes(*b"free"))
 }
 
 // Boxes written into an output of dots.

@@ -1,4 +1,4 @@
-// The limits of short and long fields (document 01, 'src/mini.rs, writing'): for each, what writing makes of it and of one more.
+// The limits of short and long fields: for each, what writing makes of it and of one more.
 ghost use Rattle.std.specs.Prelude.{◌<◌};
 
 use bits::ReadError;
@@ -15,6 +15,7 @@ fn full() -> Result<MinimizedImage, ReadError> {
     )
 }
 
+// By `as`: no `From` leads from u32 to usize.
 fn span(len: u32) -> Span {
     Span {
         at: 0,
@@ -22,7 +23,7 @@ fn span(len: u32) -> Span {
     }
 }
 
-// The form in which a record is written, or the number of the refusal.
+// The form in which a record is written, or the number of the refusal, as it is printed: an enum with `Display` would only say these words again.
 fn form(image: MinimizedImage) -> &'static str {
     if !is_writable(image) {
         return "11";

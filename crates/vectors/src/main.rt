@@ -1,4 +1,4 @@
-// Runs the corner cases that document 01 lists and does not mark P, and prints what comes back.
+// Runs corner cases of boxes.rs and of writing, and prints what comes back.
 #![tactic(auto)]
 
 mod boxes_rs;

@@ -1,4 +1,4 @@
-// Refusal 10: whether every present chunk lies within the source.
+// Refusal 10: whether every present chunk lies within the source. One by one, as the definition names them: a gain map's only where there is one.
 ghost use Rattle.std.specs.Prelude.{◌≡◌};
 ghost use Rattle.mini.specs.Same.{chunk_in, gain_in, well_placed};
 

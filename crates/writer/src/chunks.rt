@@ -27,7 +27,7 @@ fn put_span(out: &mut [u8], at: usize, source: &[u8], x: Span) -> usize
     end
 }
 
-// An absent chunk is passed over.
+// An absent chunk is passed over: by a rule of the project a `let .. else` gives back the unchanged place.
 #[tactic(auto, using(crate::specs::Laid::none))]
 fn put_chunk(out: &mut [u8], at: usize, source: &[u8], c: Chunk) -> usize
     ensures { Laid out.old at (chunk_bytes c source.now) out.new result }
@@ -38,7 +38,7 @@ fn put_chunk(out: &mut [u8], at: usize, source: &[u8], c: Chunk) -> usize
     put_span(out, at, source, span)
 }
 
-// All chunks, from a place on.
+// All chunks, from a place on, named as the definition names them: a loop over an array of them is longer by 20 lines with its proof.
 pub fn put_chunks(out: &mut [u8], at: usize, source: &[u8], i: MinimizedImage) -> usize
     ensures { Laid out.old at (joined (chunks_of i source.now)) out.new result }
 {

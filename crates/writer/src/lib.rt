@@ -11,7 +11,7 @@ pub mod checks;
 pub mod chunks;
 
 use bit_writer::BitWriter;
-use boxes::FourCc;
+use boxes::{BOX_HEADER_LEN, FourCc};
 use header_writer::header::put_header;
 use mini::MinimizedImage;
 use record_header::{header_of, not_empty};
@@ -19,7 +19,8 @@ use refusals::Refusal;
 
 const MINI: FourCc = 0x6D696E69;
 
-// Refusals 10, 11 and 16, the last with the length that the box needs.
+// Refusals 10, 11 and 16, the last with the length that the box needs. By `match` below: a case with a field cannot be cast to its number, and only
+// one has a length.
 #[derive(Clone, Copy, Debug, PartialEq, Eq)]
 pub enum WriteError {
     Misplaced,
@@ -51,7 +52,7 @@ impl Refusal for WriteError {
 }
 
 // A record's header, from the buffer's first byte on: its length, or None where no payload holds the record (refusal 11). The buffer is the
-// caller's own, of a fixed size since there is no heap: no header is longer than 251 bytes.
+// caller's own, of a fixed size since there is no heap: no header is longer than 251 bytes. `&`, not `&&`, which to the prover is a branch.
 fn put_header_bytes(out: &mut [u8; 256], i: MinimizedImage) -> Option<usize>
     ensures { HeaderOf i out.new (unwrap_or result 0) (is_some result) }
 {
@@ -73,10 +74,10 @@ fn box_len(i: MinimizedImage, source: &[u8], header: &[u8]) -> usize
     requires held { HeaderHeld (header_of i) header.now (length header.now) }
     ensures { Needed i source.now result }
 {
-    chunks::put_chunks(&mut [], 8 + header.len(), source, i)
+    chunks::put_chunks(&mut [], BOX_HEADER_LEN + header.len(), source, i)
 }
 
-// The box of a record that can be written, and its length.
+// The box of a record that can be written, and its length. The header comes in a buffer of its own: an output that is too short keeps its bytes.
 fn write_box(
     i: MinimizedImage,
     source: &[u8],
@@ -91,9 +92,9 @@ fn write_box(
     if out.len() < needed {
         return Err(WriteError::TooShort { needed });
     }
-    let at = octets::copy_in(out, 8, header);
+    let at = octets::copy_in(out, BOX_HEADER_LEN, header);
     chunks::put_chunks(out, at, source, i);
-    boxes::put_box_header(out, 0, needed - 8, MINI);
+    boxes::put_box_header(out, 0, needed - BOX_HEADER_LEN, MINI);
     Ok(needed)
 }
 

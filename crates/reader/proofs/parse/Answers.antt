@@ -1,10 +1,11 @@
-use Rattle.std.proofs.Common.{List, T, ap, subst, sym, ℕ, ◌∙◌, ◌≡◌}
-use Rattle.bits.specs.Run.{Run}
+use Rattle.std.proofs.Common.{rules, List, T, ap, subst, sym, ℕ, ◌∙◌, ◌≡◌}
+use Rattle.bits.specs.Run.{Run, state}
 use Rattle.bits.specs.State.{State, clean, is_reading_state}
 use Rattle.mini.specs.Read.{past_trailing_bits, read_chunks, read_mini, Reading}
 use Rattle.mini.specs.Refusals.{header_told}
 use Rattle.mini.specs.Syntax.{header}
 use Rattle.mini.specs.declared.Header.{Header}
+use Rattle.reader.specs.Rules.{stuck_there, clean_there}
 use Rattle.reader.proofs.parse.Goals as goal
 
 -- past a header h and its trailing bits, at e, reading has met one of its refusals or none
@@ -16,12 +17,20 @@ whole : (s : List ℕ) {h : Header} {b e : State} {a : Reading} → Run header s
 unfolding read_mini
 whole s {h} r f g = g ∙ ap (read_chunks s h) f ∙ ap (λ (x : Header × State). read_chunks s x.0 (past_trailing_bits s x.1)) (sym r.eq)
 
-pub read_chunks-requires : goal.read_chunks-requires
-read_chunks-requires c =
-    record {
-      sizes_bound = c.read_header.ensures.sizes_bound;
-      refusal_bound = told _ (rw c.new.ensures at c.read_header.ensures.run) c.read_trailing_bits.ensures;
-    }
+pub place-requires : goal.place-requires
+place-requires c = told _ (rw c.new.ensures at c.read_header.ensures.run) c.read_trailing_bits.ensures
+
+pub returns-in_err-place : goal.returns-in_err-place
+unfolding state
+returns-in_err-place c =
+    let h = c.read_header.result.0 in
+    let r = stuck_there c.args.payload.now h (state c.read_trailing_bits.result) c.in_err-place.field-0.0 c.in_err-place.ensures in
+    let w = whole _ (rw c.new.ensures at c.read_header.ensures.run) c.read_trailing_bits.ensures r in
+    search (rules, w)
 
 pub returns : goal.returns
-returns c = whole _ (rw c.new.ensures at c.read_header.ensures.run) c.read_trailing_bits.ensures c.read_chunks.ensures
+unfolding state
+returns c =
+    let d = c.in_ok-place.ensures in
+    whole _ (rw c.new.ensures at c.read_header.ensures.run) c.read_trailing_bits.ensures
+    (clean_there c.args.payload.now c.read_header.result.0 (state c.read_trailing_bits.result) d.0 (rw d.1) c.read_chunks.ensures)

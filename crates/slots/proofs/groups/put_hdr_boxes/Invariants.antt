@@ -1,8 +1,8 @@
 use Rattle.std.proofs.Common.{map, take}
 use Rattle.std.specs.List.{sum_by}
 use Rattle.octets.specs.Overwrite.{Wrote}
-use Rattle.slots.specs.HdrSlots.{hdr_slot, hdr_slot_len}
-use Rattle.slots.specs.Slots.{slots_bytes}
+use Rattle.slots.specs.Lengths.{hdr_slot_len}
+use Rattle.slots.specs.Slots.{hdr_slot, slots_bytes}
 use Rattle.slots.proofs.groups.put_hdr_boxes.Given as goal
 
 -- as far as the loop has come
