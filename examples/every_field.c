@@ -37,6 +37,13 @@ static const char *const payloads[] = {
     "00402F3E00000002AAAAAAAA",
 };
 
+/* Payloads that are refused, for each reason and in several parts, one of them with every chunk, and one that is not. */
+static const char *const broken[] = {
+    "", "40", "1000000180", "00000000000001AA", "00000000000000", "0400000000002000" "30A1A2", "010000001008", "20000000617630",
+    "05E00000600080000060200C002190010001D0090280" "C0A0A06060601C1C1C1C7C7C7C7C7C" "6D6D6D6D6D6DADADAD",
+    "00000000000000AA",
+};
+
 /* A small box, one with an extended type, and one with a largesize; and where they start. */
 static const char boxes[] = "0000000D6672656501020304050000001B75756964A1A2A3A4A5A6A7A8A9B0B1B2B3B4B5B6AABBCC"
                             "000000016D6461740000000000000012DDEE";
@@ -271,6 +278,21 @@ static void outline(void)
     ROW(OUTLINE_IGNORED, eight);
 }
 
+static void diagnosis(void)
+{
+    fill("diagnosis", bustardcase_diagnose, broken, sizeof broken / sizeof *broken, BUSTARDCASE_DIAGNOSIS_LEN);
+    ROW(DIAGNOSIS_REFUSAL, one);
+    ROW(DIAGNOSIS_BIT, eight);
+    ROW(DIAGNOSIS_PART, one);
+    for (int i = 0; i < 12; i++)
+        row("DIAGNOSIS_ENDS", eight, BUSTARDCASE_DIAGNOSIS_ENDS + i * 8);
+    ROW(DIAGNOSIS_CHUNK, one);
+    ROW(DIAGNOSIS_LENGTH, eight);
+    ROW(DIAGNOSIS_MISSING, eight);
+    for (int i = 0; i < 11; i++)
+        row("DIAGNOSIS_AS_THEY_LIE", entry, BUSTARDCASE_DIAGNOSIS_AS_THEY_LIE + i * BUSTARDCASE_OUTLINE_ENTRY_LEN);
+}
+
 int main(void)
 {
     box_header();
@@ -278,5 +300,6 @@ int main(void)
     record();
     check();
     outline();
+    diagnosis();
     return 0;
 }

@@ -38,6 +38,7 @@ int main(void)
     say("read", bustardcase_read(payload, payload_len, out, sizeof out));
     say("check", bustardcase_check(payload, payload_len, out, sizeof out));
     say("outline", bustardcase_outline(payload, payload_len, out, sizeof out));
+    say("diagnose", bustardcase_diagnose(payload, payload_len, out, sizeof out));
     say("rewrite", bustardcase_rewrite(payload, payload_len, out, sizeof out));
     say("expand", bustardcase_expand(payload, payload_len, mif3, 0, brands, brands_len, out, sizeof out));
     say("expand", bustardcase_expand(payload, payload_len, mif3, 0, brands, brands_len, out, 0));

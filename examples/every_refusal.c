@@ -1,5 +1,5 @@
-/* Has the functions refuse for every reason that they have, and prints the name and the number of each. At the repository's
-   root: cc -I include examples/every_refusal.c target/staticlib/libexports*.a -o target/refusals && target/refusals */
+/* Has the functions refuse for every reason that they have, and prints the name, the number and the value of each. At the
+   repository's root: cc -I include examples/every_refusal.c target/staticlib/libexports*.a -o target/refusals && target/refusals */
 #include <stdio.h>
 #include "bustardcase.h"
 
@@ -18,6 +18,7 @@ static void say(const char *name, unsigned refusal, uint64_t value, uint64_t ans
 /* The bytes of a string without the zero that ends it. */
 #define BYTES(text) (const uint8_t *)(text), sizeof(text) - 1
 #define SAY(name, answer) say(#name, BUSTARDCASE_REFUSAL_##name, 0, answer)
+#define SAY_AT(name, bit, answer) say(#name, BUSTARDCASE_REFUSAL_##name, bit, answer)
 
 static uint64_t box(const uint8_t *buf, size_t len) { return bustardcase_box_header(buf, len, 0, out, sizeof out); }
 static uint64_t read_of(const uint8_t *payload, size_t len) { return bustardcase_read(payload, len, out, sizeof out); }
@@ -33,11 +34,11 @@ int main(void)
     SAY(LARGE_SIZE_CUT, box(BYTES("\0\0\0\x01""mdat\0\0\0\0\0\0\0")));
     SAY(BOX_SIZE, box(BYTES("\0\0\0\x07""free")));
     SAY(EXTENDED_TYPE_CUT, box(BYTES("\0\0\0\x0A""uuid\0\0")));
-    SAY(HEADER_CUT, read_of(BYTES("\0\0\0")));
-    SAY(VERSION, read_of(BYTES("\x40")));
-    SAY(FLOAT_DEPTH, read_of(BYTES("\x10\0\0\x01\x80")));
-    SAY(TRAILING_BITS, read_of(BYTES("\0\0\0\0\0\0\x01\xAA")));
-    SAY(CHUNK_PAST_END, read_of(BYTES("\0\0\0\0\0\0\0")));
+    SAY_AT(HEADER_CUT, 24, read_of(BYTES("\0\0\0")));
+    SAY_AT(VERSION, 0, read_of(BYTES("\x40")));
+    SAY_AT(FLOAT_DEPTH, 31, read_of(BYTES("\x10\0\0\x01\x80")));
+    SAY_AT(TRAILING_BITS, 52, read_of(BYTES("\0\0\0\0\0\0\x01\xAA")));
+    SAY_AT(CHUNK_PAST_END, 56, read_of(BYTES("\0\0\0\0\0\0\0")));
     SAY(EMPTY_ALPHA, expand(BYTES("\x04\0\0\0\0\0\0\0\0\xAA"), BYTES("mif3")));
     SAY(UUID_CODEC_TYPE, expand(BYTES("\x20\0\0\0uuidav1C\0\0\0\xAA"), BYTES("mif3")));
     SAY(NO_CODEC_TYPES, expand(BYTES("\0\0\0\0\0\0\0\xAA"), BYTES("mif3")));

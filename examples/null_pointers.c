@@ -51,6 +51,7 @@ int main(void)
     THREE("read", bustardcase_read, payload, PAYLOAD_LEN);
     THREE("check", bustardcase_check, payload, PAYLOAD_LEN);
     THREE("outline", bustardcase_outline, payload, PAYLOAD_LEN);
+    THREE("diagnose", bustardcase_diagnose, payload, PAYLOAD_LEN);
     THREE("rewrite", bustardcase_rewrite, payload, PAYLOAD_LEN);
     THREE("expand", expand, payload, PAYLOAD_LEN);
     say("expand, no brands", bustardcase_expand(payload, PAYLOAD_LEN, MIF3, 0, NULL, 0, out, sizeof out),

@@ -24,6 +24,6 @@ int main(void)
     printf("main data at %lu: %X\n", main_data, payload[main_data]);
     printf("alpha data at %lu: %X\n", alpha_data, payload[alpha_data]);
     answer = bustardcase_read(payload, sizeof payload - 1, record, sizeof record);
-    printf("one byte less: refusal %u\n", BUSTARDCASE_REFUSAL(answer));
+    printf("one byte less: refusal %u at bit %lu\n", BUSTARDCASE_REFUSAL(answer), (unsigned long)BUSTARDCASE_VALUE(answer));
     return 0;
 }

@@ -9,6 +9,7 @@ fn main() -> Result<(), bustardcase::Refusal> {
     println!("main data at {}: {:X}", main.at, main.of(&payload)[0]);
     println!("alpha data at {}: {:X}", alpha.at, alpha.of(&payload)[0]);
     let refusal = bustardcase::read(&payload[..10]).unwrap_err();
-    println!("one byte less: refusal {}", refusal.number());
+    let (number, bit) = (refusal.number(), refusal.bit().unwrap_or(0));
+    println!("one byte less: refusal {number} at bit {bit}");
     Ok(())
 }

@@ -1,7 +1,8 @@
 /* Bustardcase: the low-overhead image format (ISO/IEC 23008-12 Amd 2, Annex O: the MinimizedImageBox, 'mini'), proved.
 
-   Link target/staticlib/libexports.a, and for bustardcase_outline also target/staticlib/libexports_outline.a; ./bustardcase
-   makes both, and they need no other library. docs/ABI.md says the same at more length; examples/ has programs.
+   Link target/staticlib/libexports.a, and for bustardcase_outline and bustardcase_diagnose also
+   target/staticlib/libexports_outline.a; ./bustardcase makes both, and they need no other library. docs/ABI.md says the same at
+   more length; examples/ has programs.
 
    A slice is passed as a pointer and a length. Where the length is 0, the pointer may be null. Outputs must not overlap
    inputs. Nothing is kept after a call, and nothing is allocated; the functions may be called from several threads. */
@@ -19,9 +20,15 @@ extern "C" {
 
      under BUSTARDCASE_DONE                  how many bytes were written at the start of `out`; no other byte of it was changed
      under BUSTARDCASE_REFUSAL_SHORT_OUTPUT  how many bytes `out` must have; it keeps its bytes
+     under the refusals of reading, 5 to 9   the bit of the payload at which reading broke off; `out` keeps its bytes
      under any other refusal                 0; `out` keeps its bytes */
 #define BUSTARDCASE_REFUSAL(answer) ((unsigned)((uint64_t)(answer) >> 48))
 #define BUSTARDCASE_VALUE(answer) ((uint64_t)(answer) & (((uint64_t)1 << 48) - 1))
+
+/* The bit counts from 0, the high bit of a byte first, and can have 33 bits. Under 5 to 7 it is where the field begins that was
+   being read; a codec type is one field, and so is an HDR body, but for a cclv body: its flags byte is one, what follows it
+   another. Under 8 it is the first trailing bit, under 9 the first byte, times 8, of the first chunk in stored order that ends
+   past the payload. bustardcase_diagnose says what stands there. */
 
 /* The refusals of a call are tried in the order in which it lists them, 16 last; in reading, 5 to 7 go by bit order. */
 enum bustardcase_refusal {
@@ -211,6 +218,30 @@ enum bustardcase_outline_layout {
     BUSTARDCASE_OUTLINE_ENTRY_LEN = 18,
     BUSTARDCASE_OUTLINE_IGNORED = 492, /* 8: how many bytes after the last chunk are ignored */
     BUSTARDCASE_OUTLINE_LEN = 500
+};
+
+/* Where reading a payload broke off (in libexports_outline.a), for every payload, accepted or not: a refusal of reading is a
+   part of what is written. Refusal 16 alone.
+
+   Under 5 to 8, PART is the part of the header in which reading was refused, in the order of bustardcase_outline. The parts
+   before it were read, and end as there; it and the later ones have the bit for their end. Under 9 all were read, and CHUNK is
+   the number, as in bustardcase_outline, of the chunk that ends past the payload; it begins at byte BIT / 8.
+
+   AS_THEY_LIE has the 11 chunks as the header gives them, in the entries of bustardcase_outline, whether or not the payload has
+   their bytes: under 9 those before CHUNK are there, and those after it, where present, begin past the payload. Under 5 to 8 it
+   is all zeros. */
+uint64_t bustardcase_diagnose(const uint8_t *payload, size_t payload_len, uint8_t *out, size_t out_len);
+
+enum bustardcase_diagnosis_layout {
+    BUSTARDCASE_DIAGNOSIS_REFUSAL = 0,       /* 1: 5 to 9; 0 for a payload that is accepted */
+    BUSTARDCASE_DIAGNOSIS_BIT = 1,           /* 8 */
+    BUSTARDCASE_DIAGNOSIS_PART = 9,          /* 1: 1 to 12 under 5 to 8, else 0 */
+    BUSTARDCASE_DIAGNOSIS_ENDS = 10,         /* 96: where the parts end, 8 each, as from BUSTARDCASE_OUTLINE_FLAGS on */
+    BUSTARDCASE_DIAGNOSIS_CHUNK = 106,       /* 1: 1 to 11 under 9, else 0 */
+    BUSTARDCASE_DIAGNOSIS_LENGTH = 107,      /* 8: how many bytes the chunk has */
+    BUSTARDCASE_DIAGNOSIS_MISSING = 115,     /* 8: how many of these are missing */
+    BUSTARDCASE_DIAGNOSIS_AS_THEY_LIE = 123, /* 198: entries in the order of the places */
+    BUSTARDCASE_DIAGNOSIS_LEN = 321
 };
 
 /* The box of type `mini` that holds the record of a payload in its shortest form, header included. Refusals 5, 6, 7, 8, 9,

@@ -9,7 +9,7 @@ use Rattle.std.proofs.Math.Pow.{are_bytes}
 use Rattle.std.proofs.lemmas.List.Edits.{sets}
 use lib.Seq.{set_out}
 use Rattle.bits.specs.Bit.{to_n, odd, val, bits_n, bits_onto, bits_of, bits_onto_is, bits_onto-append, length-bits_n, val-bits_n}
-use Rattle.bits.specs.State.{bytes_of, is_reading_refusal}
+use Rattle.bits.specs.State.{bytes_of, is_test_refusal}
 use Rattle.bits.specs.Format.{Format, field, flag, flag_if, field_if, minus1_if, choose, view, const, exactly, bytes, is_list, listed, ◌>>=◌, ◌>>◌}
 use Rattle.bit_writer.specs.Writer.{feed, place, waiting, fits, Fed, Tested, Puts, all_zero}
 use Rattle.bit_writer.specs.declared.BitWriter.{BitWriter}
@@ -191,7 +191,7 @@ module _ {o o' : List ℕ} {w w' : BitWriter} where
   unfolding view
   puts_renamed to from p h d e = record { fed = e.fed; ok = e.ok ∙ ap (λ (x : Bool). fits w && x) (sym (and-true _)) }
 
-  pub puts_exactly : (n v r : ℕ) (h : T (is_reading_refusal r)) → Puts (field n) o w v o' w' → Puts (exactly n v r h) o w tt o' w'
+  pub puts_exactly : (n v r : ℕ) (h : T (is_test_refusal r)) → Puts (field n) o w v o' w' → Puts (exactly n v r h) o w tt o' w'
   unfolding view
   puts_exactly n v r h e =
       record { fed = e.fed; ok = e.ok ∙ ap (λ (x : Bool). fits w && x) (sym (and-true _ ∙ ap (λ (y : Bool). nat_lt v (2 ^ n) && y) (eq-eqb v v refl) ∙ and-true _)) }

@@ -1,14 +1,14 @@
--- A format: how a value is read from the bits of a payload, how it is printed as bits, which values it can print, and the two laws
--- between reading and printing. Formats are closed under sequence, choice by a value read before, and change of view, so that a whole
--- header has the two laws without a proof of its own. Assumes nothing.
-use Rattle.std.specs.Prelude.{◌≡◌, refl, Bool, true, false, not, ◌&&◌, ◌||◌, List, [], ◌∷◌, ◌++◌, ℕ, zero, suc, ◌+◌, ◌-◌, ◌*◌, ◌^◌, ◌≤◌, ◌<◌, T, eqb, leb, ltb, ◌↔◌, length, take, drop, replicate}
-use Rattle.std.proofs.Common.{sym, ap, ap₂, ◌∙◌, subst, add-zero, add_assoc, add-sub_cancel, sub-add_cancel, lt_of_lt_of_le, arith, eqb→eq, ltb→lt, lt→ltb, leb→le, le→leb, length-append, length-take, length-drop, take-append-drop, take-add, drop-drop, take-take, take_at, drop_at, pow_mono, eqb-true, leb-true, le-leb}
+-- A format: how a value is read from the bits of a payload, how it is printed as bits, which values it can print, the two laws
+-- between reading and printing, and where reading stops if it is refused. Formats are closed under sequence, choice by a value read
+-- before, and change of view, so that a whole header has all this without a proof of its own. Assumes nothing.
+use Rattle.std.specs.Prelude.{◌≡◌, refl, Bool, true, false, not, cond, ◌&&◌, ◌||◌, List, [], ◌∷◌, ◌++◌, ℕ, zero, suc, ◌+◌, ◌-◌, ◌*◌, ◌^◌, ◌≤◌, ◌<◌, T, eqb, leb, ltb, ◌↔◌, length, take, drop, replicate}
+use Rattle.std.proofs.Common.{sym, ap, ap₂, ◌∙◌, subst, add-zero, add_assoc, add-sub_cancel, sub-add_cancel, lt_of_lt_of_le, arith, eqb→eq, ltb→lt, lt→ltb, leb→le, le→leb, length-append, length-take, length-drop, take-append-drop, take-add, drop-drop, take-take, take_at, drop_at, pow_mono, ne_eqb, eqb-true, leb-true, leb-false, le-leb}
 use Rattle.std.proofs.lemmas.List.{append_cancel_left}
 use Rattle.std.proofs.Math.Dec.{eqb_refl}
 use Rattle.std.proofs.Math.Pow.{are_bytes}
 use Rattle.std.proofs.lemmas.Bool.{eqb-false}
 use Rattle.bits.specs.Bit.{to_n, val, bits_n, bits_of, bits_onto_is, length-bits_n, val-bits_n, bits_n-val, val-lt, length-bits_of}
-use Rattle.bits.specs.State.{State, is_reading_refusal, is_reading_state, clean, ahead_if, ahead, part, bytes_of, bytes_at, part_if, bytes_if, read_bits, read_bytes, refuse_if, test}
+use Rattle.bits.specs.State.{State, is_reading_refusal, is_test_refusal, is_reading_state, clean, ahead_if, ahead, part, bytes_of, bytes_at, part_if, bytes_if, read_bits, read_bytes, refuse_if, test}
 
 infixr 20 ◌>>=◌
 infixr 20 ◌>>◌
@@ -48,6 +48,10 @@ pub record Got {A : Type 0} (Good : A → Type 0) (print : A → List Bool) (s :
   pub same : At s b.at (print a)
   pub moved : c.at ≡ b.at + length (print a)
 
+-- reading that leaves the state c goes neither back nor past bit n
+abbrev pub Stays : ℕ → State → State → Type 0
+Stays n b c = b.at ≤ n → (b.at ≤ c.at) × (c.at ≤ n)
+
 pub record Format (A : Type 0) : Type 1 where
   pub parse : List ℕ → State → A × State
   pub print : A → List Bool
@@ -59,6 +63,14 @@ pub record Format (A : Type 0) : Type 1 where
       → parse s (clean p) ≡ (a, clean (p + length (print a)))
   -- a refusal that it meets is one of reading's
   pub told : (s : List ℕ) (b : State) → T (is_reading_state b) → T (is_reading_state (parse s b).1)
+  -- and the place that it leaves, which after a refusal is the refused field's first bit, is one of the payload's
+  pub stays : (s : List ℕ) (b : State) → Stays (8 * length s) b (parse s b).1
+  -- once there is a refusal, it leaves the state as it is
+  pub sticks : (s : List ℕ) (b : State) → (b.refusal ≡ 0 → ⊥) → (parse s b).1 ≡ b
+  -- how many bits the field has in which reading stops, where it does
+  pub width : List ℕ → State → ℕ
+  -- and after refusal 5 that field, which begins at the place left, passes the payload's end
+  pub cut : (s : List ℕ) (b : State) → b.refusal ≡ 0 → (parse s b).1.refusal ≡ 5 → 8 * length s < (parse s b).1.at + width s b
 
 -- ---- n bits
 ahead_told : (s : List ℕ) (b : State) (n : ℕ) → T (is_reading_state b) → T (is_reading_state (ahead s b n).1)
@@ -69,6 +81,28 @@ ahead_told s b n h = go (eqb b.refusal 0) (leb (b.at + n) (8 * length s))
     go true true = tt
     go true false = tt
     go false u = h
+
+ahead_stays : (s : List ℕ) (b : State) (n : ℕ) → Stays (8 * length s) b (ahead s b n).1
+unfolding ahead
+ahead_stays s b n h = go (eqb b.refusal 0) (leb (b.at + n) (8 * length s)) refl
+  where
+    go : (t u : Bool) → leb (b.at + n) (8 * length s) ≡ u → (b.at ≤ (ahead_if t u b n).1.at) × ((ahead_if t u b n).1.at ≤ 8 * length s)
+    go true true e = (omega arith, leb-true _ _ e)
+    go true false e = (omega arith, h)
+    go false u e = (omega arith, h)
+
+ahead_sticks : (s : List ℕ) (b : State) (n : ℕ) → (b.refusal ≡ 0 → ⊥) → (ahead s b n).1 ≡ b
+unfolding ahead
+ahead_sticks s b n h = ap (λ (t : Bool). (ahead_if t (leb (b.at + n) (8 * length s)) b n).1) (ne_eqb b.refusal 0 h)
+
+ahead_cut : (s : List ℕ) (b : State) (n : ℕ) → b.refusal ≡ 0 → (ahead s b n).1.refusal ≡ 5 → 8 * length s < (ahead s b n).1.at + n
+unfolding ahead
+ahead_cut s b n h z = go (eqb b.refusal 0) (leb (b.at + n) (8 * length s)) refl z
+  where
+    go : (t u : Bool) → leb (b.at + n) (8 * length s) ≡ u → (ahead_if t u b n).1.refusal ≡ 5 → 8 * length s < (ahead_if t u b n).1.at + n
+    go true true e z = absurd (omega (arith, z))
+    go true false e z = omega (arith, leb-false (b.at + n) (8 * length s) e)
+    go false u e z = absurd (omega (arith, h, z))
 
 field_inv' : (n : ℕ) (s : List ℕ) (b : State) (t u : Bool) → eqb b.refusal 0 ≡ t → leb (b.at + n) (8 * length s) ≡ u
     → (ahead_if t u b n).1.refusal ≡ 0
@@ -109,6 +143,18 @@ pub field_told : (n : ℕ) (s : List ℕ) (b : State) → T (is_reading_state b)
 unfolding read_bits
 field_told n s b h = ahead_told s b n h
 
+pub field_stays : (n : ℕ) (s : List ℕ) (b : State) → Stays (8 * length s) b (read_bits s b n).1
+unfolding read_bits
+field_stays n s b h = ahead_stays s b n h
+
+pub field_sticks : (n : ℕ) (s : List ℕ) (b : State) → (b.refusal ≡ 0 → ⊥) → (read_bits s b n).1 ≡ b
+unfolding read_bits
+field_sticks n s b h = ahead_sticks s b n h
+
+pub field_cut : (n : ℕ) (s : List ℕ) (b : State) → b.refusal ≡ 0 → (read_bits s b n).1.refusal ≡ 5 → 8 * length s < (read_bits s b n).1.at + n
+unfolding read_bits
+field_cut n s b h z = ahead_cut s b n h z
+
 abbrev pub field : ℕ → Format ℕ
 field n =
     record {
@@ -120,6 +166,10 @@ field n =
       inv = field_inv n;
       back = field_back n;
       told = field_told n;
+      stays = field_stays n;
+      sticks = field_sticks n;
+      width = λ s b. n;
+      cut = field_cut n;
     }
 
 pub eqb_is : (n x : ℕ) → T (eqb x n) ↔ (x ≡ n)
@@ -219,6 +269,18 @@ pub bytes_told : (n : ℕ) (s : List ℕ) (b : State) → T (is_reading_state b)
 unfolding read_bytes
 bytes_told n s b h = ahead_told s b (8 * n) h
 
+pub bytes_stays : (n : ℕ) (s : List ℕ) (b : State) → Stays (8 * length s) b (read_bytes s b n).1
+unfolding read_bytes
+bytes_stays n s b h = ahead_stays s b (8 * n) h
+
+pub bytes_sticks : (n : ℕ) (s : List ℕ) (b : State) → (b.refusal ≡ 0 → ⊥) → (read_bytes s b n).1 ≡ b
+unfolding read_bytes
+bytes_sticks n s b h = ahead_sticks s b (8 * n) h
+
+pub bytes_cut : (n : ℕ) (s : List ℕ) (b : State) → b.refusal ≡ 0 → (read_bytes s b n).1.refusal ≡ 5 → 8 * length s < (read_bytes s b n).1.at + 8 * n
+unfolding read_bytes
+bytes_cut n s b h z = ahead_cut s b (8 * n) h z
+
 abbrev pub bytes : ℕ → Format (List ℕ)
 bytes n =
     record {
@@ -230,6 +292,10 @@ bytes n =
       inv = bytes_inv n;
       back = bytes_back n;
       told = bytes_told n;
+      stays = bytes_stays n;
+      sticks = bytes_sticks n;
+      width = λ s b. 8 * n;
+      cut = bytes_cut n;
     }
 
 -- ---- no bits: one value
@@ -250,39 +316,73 @@ const a is d =
       inv = const_inv a;
       back = λ s p x g w e. const_back a s p x g;
       told = λ s b h. h;
+      stays = λ s b h. (omega arith, h);
+      sticks = λ s b h. refl;
+      width = λ s b. 0;
+      cut = λ s b h z. absurd (omega (arith, h, z));
     }
 
--- ---- a test on the value just read: refusal r, one of reading's, where it fails
-passed : (r : ℕ) → T (is_reading_refusal r) → (b : State) (c t : Bool) → eqb b.refusal 0 ≡ c → (refuse_if c t b r).refusal ≡ 0
-    → (b.refusal ≡ 0) × T t × (refuse_if c t b r ≡ b)
-passed r h b true true e z = (z, tt, refl)
-passed r h b true false e z = absurd (omega (arith, leb→le 5 r (and_split (leb 5 r) (leb r 9) h).0, z))
-passed r h b false t e z = absurd (eqb-false _ _ e z)
+-- ---- a test on the value just read: refusal r, one of a test's, at the bit where the value began, where it fails
+test_least : (r : ℕ) → T (is_test_refusal r) → 6 ≤ r
+test_least r h = leb→le 6 r (and_split (leb 6 r) (leb r 9) h).0
+
+test_reading : (r : ℕ) → T (is_test_refusal r) → T (is_reading_refusal r)
+test_reading r h =
+    let k = test_least r h in
+    and_join (leb 5 r) (leb r 9) (le→leb 5 r (omega arith), (and_split (leb 6 r) (leb r 9) h).1)
+
+passed : (r : ℕ) → T (is_test_refusal r) → (p : ℕ) (b : State) (c t : Bool) → eqb b.refusal 0 ≡ c → (refuse_if c t p b r).refusal ≡ 0
+    → (b.refusal ≡ 0) × T t × (refuse_if c t p b r ≡ b)
+passed r h p b true true e z = (z, tt, refl)
+passed r h p b true false e z = absurd (omega (arith, test_least r h, z))
+passed r h p b false t e z = absurd (eqb-false _ _ e z)
 
 -- a test that leaves no refusal was passed, and changed nothing
-pub test_passed : (r : ℕ) → T (is_reading_refusal r) → (b : State) (t : Bool) → (test b t r).refusal ≡ 0
-    → (b.refusal ≡ 0) × T t × (test b t r ≡ b)
-test_passed r h b t z = passed r h b (eqb b.refusal 0) t refl z
+pub test_passed : (r : ℕ) → T (is_test_refusal r) → (p : ℕ) (b : State) (t : Bool) → (test p b t r).refusal ≡ 0
+    → (b.refusal ≡ 0) × T t × (test p b t r ≡ b)
+test_passed r h p b t z = passed r h p b (eqb b.refusal 0) t refl z
 
-pub test_holds : (r p : ℕ) (t : Bool) → T t → test (clean p) t r ≡ clean p
-test_holds r p true g = refl
-test_holds r p false g = absurd g
+pub test_holds : (r p q : ℕ) (t : Bool) → T t → test p (clean q) t r ≡ clean q
+test_holds r p q true g = refl
+test_holds r p q false g = absurd g
 
 or_right : (a b : Bool) → T b → T (a || b)
 or_right true b h = tt
 or_right false b h = h
 
-pub test_told : (r : ℕ) → T (is_reading_refusal r) → (b : State) (t : Bool) → T (is_reading_state b) → T (is_reading_state (test b t r))
-test_told r h b t k = go (eqb b.refusal 0) t
+pub test_told : (r : ℕ) → T (is_test_refusal r) → (p : ℕ) (b : State) (t : Bool) → T (is_reading_state b) → T (is_reading_state (test p b t r))
+test_told r h p b t k = go (eqb b.refusal 0) t
   where
-    go : (c t : Bool) → T (is_reading_state (refuse_if c t b r))
+    go : (c t : Bool) → T (is_reading_state (refuse_if c t p b r))
     go true true = k
-    go true false = or_right (eqb r 0) (is_reading_refusal r) h
+    go true false = or_right (eqb r 0) (is_reading_refusal r) (test_reading r h)
     go false t = k
 
-module _ {A : Type 0} (p : Format A) (f : A → Bool) (r : ℕ) (h : T (is_reading_refusal r)) where
+-- a test stays between the place where its value began and the one that the value's reader left
+pub test_stays : (r n : ℕ) (p : ℕ) (b : State) (t : Bool) → (p ≤ b.at) × (b.at ≤ n) → (p ≤ (test p b t r).at) × ((test p b t r).at ≤ n)
+test_stays r n p b t (h, k) = go (eqb b.refusal 0) t
+  where
+    go : (c t : Bool) → (p ≤ (refuse_if c t p b r).at) × ((refuse_if c t p b r).at ≤ n)
+    go true true = (h, k)
+    go true false = (omega arith, omega (arith, h, k))
+    go false t = (h, k)
+
+-- refusal 5 is none of a test's: where it stands after one, the test changed nothing
+pub test_cut : (r : ℕ) → T (is_test_refusal r) → (p : ℕ) (b : State) (t : Bool) → (test p b t r).refusal ≡ 5 → test p b t r ≡ b
+test_cut r h p b t z = go (eqb b.refusal 0) t z
+  where
+    go : (c t : Bool) → (refuse_if c t p b r).refusal ≡ 5 → refuse_if c t p b r ≡ b
+    go true true z = refl
+    go true false z = absurd (omega (arith, test_least r h, z))
+    go false t z = refl
+
+-- a field that does not fit at a state does not at an equal one
+pub at_cut : (s : List ℕ) (n : ℕ) (b c : State) → c ≡ b → (b.refusal ≡ 5 → 8 * length s < b.at + n) → c.refusal ≡ 5 → 8 * length s < c.at + n
+at_cut s n b c e k z = subst (λ (d : State). d.refusal ≡ 5 → 8 * length s < d.at + n) (sym e) k z
+
+module _ {A : Type 0} (p : Format A) (f : A → Bool) (r : ℕ) (h : T (is_test_refusal r)) where
   abbrev pub ensure_parse : List ℕ → State → A × State
-  ensure_parse s b = let x = p.parse s b in (x.0, test x.1 (f x.0) r)
+  ensure_parse s b = let x = p.parse s b in (x.0, test b.at x.1 (f x.0) r)
 
   abbrev pub EnsureGood : A → Type 0
   EnsureGood a = p.Good a × T (f a)
@@ -291,15 +391,27 @@ module _ {A : Type 0} (p : Format A) (f : A → Bool) (r : ℕ) (h : T (is_readi
       → Got EnsureGood p.print s b (ensure_parse s b).0 (ensure_parse s b).1
   ensure_inv s b z =
       let x = p.parse s b in
-      let w = test_passed r h x.1 (f x.0) z in
+      let w = test_passed r h b.at x.1 (f x.0) z in
       let g = p.inv s b w.0 in
       record { was = g.was; good = (g.good, w.1); same = g.same; moved = ap (λ (c : State). c.at) w.2 ∙ g.moved }
 
   pub ensure_back : (s : List ℕ) (n : ℕ) (a : A) → EnsureGood a → n + length (p.print a) ≤ 8 * length s → At s n (p.print a)
       → ensure_parse s (clean n) ≡ (a, clean (n + length (p.print a)))
   ensure_back s n a g w e =
-      ap (λ (x : A × State). (x.0, test x.1 (f x.0) r)) (p.back s n a g.0 w e)
-      ∙ ap (λ (c : State). (a, c)) (test_holds r _ (f a) g.1)
+      ap (λ (x : A × State). (x.0, test n x.1 (f x.0) r)) (p.back s n a g.0 w e)
+      ∙ ap (λ (c : State). (a, c)) (test_holds r n _ (f a) g.1)
+
+  pub ensure_sticks : (s : List ℕ) (b : State) → (b.refusal ≡ 0 → ⊥) → (ensure_parse s b).1 ≡ b
+  ensure_sticks s b k =
+      let x = p.parse s b in
+      ap (λ (c : State). test b.at c (f x.0) r) (p.sticks s b k)
+      ∙ ap (λ (t : Bool). refuse_if t (f x.0) b.at b r) (ne_eqb b.refusal 0 k)
+
+  pub ensure_cut : (s : List ℕ) (b : State) → b.refusal ≡ 0 → (ensure_parse s b).1.refusal ≡ 5
+      → 8 * length s < (ensure_parse s b).1.at + p.width s b
+  ensure_cut s b k z =
+      let x = p.parse s b in
+      at_cut s (p.width s b) x.1 _ (test_cut r h b.at x.1 (f x.0) z) (p.cut s b k) z
 
   pub ensure_dec : (a : A) → T (p.good a && f a) ↔ EnsureGood a
   ensure_dec a = and_both (p.good a) (f a) (p.dec a) (λ t. t, λ t. t)
@@ -314,7 +426,11 @@ module _ {A : Type 0} (p : Format A) (f : A → Bool) (r : ℕ) (h : T (is_readi
         dec = ensure_dec;
         inv = ensure_inv;
         back = ensure_back;
-        told = λ s b k. test_told r h (p.parse s b).1 (f (p.parse s b).0) (p.told s b k);
+        told = λ s b k. test_told r h b.at (p.parse s b).1 (f (p.parse s b).0) (p.told s b k);
+        stays = λ s b k. test_stays r (8 * length s) b.at (p.parse s b).1 (f (p.parse s b).0) (p.stays s b k);
+        sticks = ensure_sticks;
+        width = p.width;
+        cut = ensure_cut;
       }
 
 -- ---- one format or another, by a test on what was read before
@@ -371,6 +487,37 @@ module _ {A B : Type 0} (p : Format A) (k : A → Format B) where
   pub seq_dec : (x : A × B) → T (p.good x.0 && (k x.0).good x.1) ↔ SeqGood x
   seq_dec x = and_both (p.good x.0) ((k x.0).good x.1) (p.dec x.0) ((k x.0).dec x.1)
 
+  pub seq_stays : (s : List ℕ) (b : State) → Stays (8 * length s) b (seq_parse s b).1
+  seq_stays s b h =
+      let r = p.parse s b in
+      let g = p.stays s b h in
+      let i = (k r.0).stays s r.1 g.1 in
+      (omega (arith, g.0, i.0), i.1)
+
+  pub seq_sticks : (s : List ℕ) (b : State) → (b.refusal ≡ 0 → ⊥) → (seq_parse s b).1 ≡ b
+  seq_sticks s b h =
+      let q = k (p.parse s b).0 in
+      ap (λ (c : State). (q.parse s c).1) (p.sticks s b h) ∙ q.sticks s b h
+
+  -- the second's field, where the first was not refused
+  abbrev pub seq_width : List ℕ → State → ℕ
+  seq_width s b =
+      let r = p.parse s b in
+      cond (eqb r.1.refusal 0) ((k r.0).width s r.1) (p.width s b)
+
+  pub seq_cut : (s : List ℕ) (b : State) → b.refusal ≡ 0 → (seq_parse s b).1.refusal ≡ 5 → 8 * length s < (seq_parse s b).1.at + seq_width s b
+  seq_cut s b h z = go (eqb r.1.refusal 0) refl
+    where
+      r : A × State
+      r = p.parse s b
+
+      q : Format B
+      q = k r.0
+
+      go : (t : Bool) → eqb r.1.refusal 0 ≡ t → 8 * length s < (q.parse s r.1).1.at + cond t (q.width s r.1) (p.width s b)
+      go true e = q.cut s r.1 (eqb-true _ _ e) z
+      go false e = at_cut s (p.width s b) r.1 _ (q.sticks s r.1 (eqb-false _ _ e)) (p.cut s b h) z
+
   unfoldable pub ◌>>=◌ : Format (A × B)
   ◌>>=◌ =
       record {
@@ -382,6 +529,10 @@ module _ {A B : Type 0} (p : Format A) (k : A → Format B) where
         inv = seq_inv;
         back = seq_back;
         told = λ s b h. (k (p.parse s b).0).told s (p.parse s b).1 (p.told s b h);
+        stays = seq_stays;
+        sticks = seq_sticks;
+        width = seq_width;
+        cut = seq_cut;
       }
 
 -- ---- another view of the value
@@ -430,6 +581,10 @@ module _ {A B : Type 0} (to : A → B) (from : B → A) (is : B → Bool) (p : F
         inv = view_inv;
         back = view_back;
         told = p.told;
+        stays = p.stays;
+        sticks = p.sticks;
+        width = p.width;
+        cut = p.cut;
       }
 
 -- the same value by other names
@@ -495,10 +650,10 @@ abbrev pub ◌>>◌ : {A : Type 0} → Format (Unit {0}) → Format A → Format
 p >> q = renamed (λ x. x.1) (λ a. (tt, a)) (p >>= λ u. q) (λ a. refl) (λ a. refl)
 
 -- n bits that must write v: refusal r where they do not
-pub exactly_from : (n v r : ℕ) (h : T (is_reading_refusal r)) (x : ℕ) → (ensure (field n) (λ x. eqb x v) r h).Good x → v ≡ x
+pub exactly_from : (n v r : ℕ) (h : T (is_test_refusal r)) (x : ℕ) → (ensure (field n) (λ x. eqb x v) r h).Good x → v ≡ x
 exactly_from n v r h x g = sym (eqb→eq x v g.1)
 
-abbrev pub exactly : (n v r : ℕ) → T (is_reading_refusal r) → Format (Unit {0})
+abbrev pub exactly : (n v r : ℕ) → T (is_test_refusal r) → Format (Unit {0})
 exactly n v r h =
     view (λ x. tt) (λ u. v) (λ u. true) (ensure (field n) (λ x. eqb x v) r h) (exactly_from n v r h) (λ u. (λ t. refl, λ e. tt))
 

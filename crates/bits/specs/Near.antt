@@ -1,8 +1,8 @@
 -- How long a format is: `Near p n` says that reading by p goes on by at most n bits, and so does every print. Assumes nothing.
-use Rattle.std.specs.Prelude.{◌≡◌, refl, Bool, true, false, List, ℕ, ◌+◌, ◌*◌, ◌≤◌, T, eqb, leb, length, ◌↔◌}
+use Rattle.std.specs.Prelude.{◌≡◌, Bool, true, false, List, ℕ, ◌+◌, ◌*◌, ◌≤◌, T, eqb, leb, length, ◌↔◌}
 use Rattle.std.proofs.Common.{arith, length-append}
 use Rattle.bits.specs.Bit.{length-bits_n, length-bits_of}
-use Rattle.bits.specs.State.{State, is_reading_refusal, ahead_if, ahead, read_bits, read_bytes, refuse_if}
+use Rattle.bits.specs.State.{State, is_test_refusal, ahead_if, ahead, read_bits, read_bytes, refuse_if}
 use Rattle.bits.specs.Format.{Format, field, bytes, const, ensure, choose, view, exactly, ◌>>=◌, ◌>>◌}
 
 pub record Near {A : Type 0} (p : Format A) (n : ℕ) : Type 0 where
@@ -36,17 +36,15 @@ near_bytes n =
 pub near_const : {A : Type 0} (a : A) (is : A → Bool) (d : (x : A) → T (is x) ↔ (x ≡ a)) → Near (const a is d) 0
 near_const a is d = record { far = λ s b. omega arith; long = λ x g. omega arith }
 
-refuse_far : (c t : Bool) (b : State) (r : ℕ) → (refuse_if c t b r).at ≡ b.at
-refuse_far true true b r = refl
-refuse_far true false b r = refl
-refuse_far false t b r = refl
+refuse_far : (c t : Bool) (p n : ℕ) (b : State) (r : ℕ) → b.at ≤ p + n → (refuse_if c t p b r).at ≤ p + n
+refuse_far true true p n b r h = h
+refuse_far true false p n b r h = omega arith
+refuse_far false t p n b r h = h
 
-pub near_ensure : {A : Type 0} {p : Format A} {n : ℕ} (f : A → Bool) (r : ℕ) (h : T (is_reading_refusal r)) → Near p n → Near (ensure p f r h) n
-near_ensure {p = p} f r h e =
+pub near_ensure : {A : Type 0} {p : Format A} {n : ℕ} (f : A → Bool) (r : ℕ) (h : T (is_test_refusal r)) → Near p n → Near (ensure p f r h) n
+near_ensure {p = p} {n} f r h e =
     record {
-      far =
-          λ s b.
-          let x = p.parse s b in omega (arith, e.far s b, refuse_far (eqb x.1.refusal 0) (f x.0) x.1 r);
+      far = λ s b. let x = p.parse s b in refuse_far (eqb x.1.refusal 0) (f x.0) b.at n x.1 r (e.far s b);
       long = λ a g. e.long a g.0;
     }
 
@@ -70,7 +68,7 @@ pub near_view : {A B : Type 0} {n : ℕ} (to : A → B) (from : B → A) (is : B
 unfolding view
 near_view to from is p h d e = record { far = e.far; long = λ x g. e.long (from x) g.0 }
 
-pub near_exactly : (n v r : ℕ) (h : T (is_reading_refusal r)) → Near (exactly n v r h) n
+pub near_exactly : (n v r : ℕ) (h : T (is_test_refusal r)) → Near (exactly n v r h) n
 near_exactly n v r h = near_view _ _ _ _ _ _ (near_ensure (λ x. eqb x v) r h (near_field n))
 
 -- one format after another that has no value

@@ -2,16 +2,27 @@
 use Rattle.std.specs.Prelude.{◌≡◌, ℕ}
 use Rattle.std.proofs.Common.{arith, rules}
 use Rattle.bits.specs.declared.ReadError.{ReadError}
-use Rattle.bits.specs.declared.ReadError.TheVariants.{Truncated, Version, FloatDepth, TrailingBits, ChunkPastEnd}
+use Rattle.bits.specs.declared.ReadErrorKind.{ReadErrorKind}
+use Rattle.bits.specs.declared.ReadErrorKind.TheVariants.{Truncated, Version, FloatDepth, TrailingBits, ChunkPastEnd}
 
--- the number of each refusal
-abbrev pub number : ReadError → ℕ
-number Truncated = 5
-number Version = 6
-number FloatDepth = 7
-number TrailingBits = 8
-number ChunkPastEnd = 9
+-- the number of each kind
+abbrev pub kind_number : ReadErrorKind → ℕ
+kind_number Truncated = 5
+kind_number Version = 6
+kind_number FloatDepth = 7
+kind_number TrailingBits = 8
+kind_number ChunkPastEnd = 9
 
 -- none is 0
+pub kind_not_zero : (k : ReadErrorKind) → kind_number k ≡ 0 → ⊥
+kind_not_zero k = search (rules, arith)
+
+abbrev pub number : ReadError → ℕ
+number e = kind_number e.kind
+
 pub number_not_zero : (e : ReadError) → number e ≡ 0 → ⊥
-number_not_zero e = search (rules, arith)
+number_not_zero e = kind_not_zero e.kind
+
+-- what comes with it: the bit (document 02, point 5)
+abbrev pub value_in : ReadError → ℕ
+value_in e = e.bit

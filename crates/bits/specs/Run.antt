@@ -4,7 +4,7 @@ use Rattle.std.specs.Prelude.{◌≡◌, Bool, true, false, List, ℕ, ◌+◌, 
 use Rattle.std.proofs.Common.{sym, ap₂, ◌∙◌, true≢false, eq-eqb, ne_eqb}
 use Rattle.std.proofs.Math.Path.{ap}
 use Rattle.std.proofs.lemmas.Bool.{false≢true}
-use Rattle.bits.specs.State.{State, is_reading_refusal, ahead, ahead_if, part, part_if, bytes_if, read_bits, read_bytes, refuse_if, test}
+use Rattle.bits.specs.State.{State, is_test_refusal, ahead, ahead_if, part, part_if, bytes_if, read_bits, read_bytes, refuse_if, test}
 use Rattle.bits.specs.Format.{Format, field, bytes, flag, minus1, offset, choose, view, ensure, exactly, ◌>>=◌, ◌>>◌}
 use Rattle.bits.specs.declared.BitPos.{BitPos}
 use Rattle.bits.specs.declared.Bits.{Bits}
@@ -38,14 +38,14 @@ unfolding ahead
 ahead_short s b n h u = ap₂ (λ (t u : Bool). ahead_if t u b n) (eq-eqb b.refusal 0 h) u
 
 -- ---- the three answers of a test
-pub test_passes : (b : State) (t : Bool) (n : ℕ) → b.refusal ≡ 0 → t ≡ true → test b t n ≡ b
-test_passes b t n h u = ap₂ (λ (s t : Bool). refuse_if s t b n) (eq-eqb b.refusal 0 h) u
+pub test_passes : (p : ℕ) (b : State) (t : Bool) (n : ℕ) → b.refusal ≡ 0 → t ≡ true → test p b t n ≡ b
+test_passes p b t n h u = ap₂ (λ (s t : Bool). refuse_if s t p b n) (eq-eqb b.refusal 0 h) u
 
-pub test_refuses : (b : State) (t : Bool) (n : ℕ) → b.refusal ≡ 0 → t ≡ false → test b t n ≡ record { at = b.at; refusal = n }
-test_refuses b t n h u = ap₂ (λ (s t : Bool). refuse_if s t b n) (eq-eqb b.refusal 0 h) u
+pub test_refuses : (p : ℕ) (b : State) (t : Bool) (n : ℕ) → b.refusal ≡ 0 → t ≡ false → test p b t n ≡ record { at = p; refusal = n }
+test_refuses p b t n h u = ap₂ (λ (s t : Bool). refuse_if s t p b n) (eq-eqb b.refusal 0 h) u
 
-pub test_stuck : (b : State) (t : Bool) (n : ℕ) → (b.refusal ≡ 0 → ⊥) → test b t n ≡ b
-test_stuck b t n h = ap (λ (s : Bool). refuse_if s t b n) (ne_eqb b.refusal 0 h)
+pub test_stuck : (p : ℕ) (b : State) (t : Bool) (n : ℕ) → (b.refusal ≡ 0 → ⊥) → test p b t n ≡ b
+test_stuck p b t n h = ap (λ (s : Bool). refuse_if s t p b n) (ne_eqb b.refusal 0 h)
 
 -- ---- the primitive fields
 pub run_here : {s : List ℕ} {b c : State} {t : Bool} {v : ℕ} (n : ℕ) → ahead s b n ≡ (t, c) → t ≡ true → v ≡ part s b.at n
@@ -91,12 +91,12 @@ pub run_minus1 : {s : List ℕ} {b c : State} {v : ℕ} (n : ℕ) → Run (field
 run_minus1 n e = run_offset 1 n e
 
 -- ---- a test on the value just read
-pub run_ensure : {A : Type 0} {s : List ℕ} {b c d : State} {x : A} (p : Format A) (f : A → Bool) (r : ℕ) (h : T (is_reading_refusal r)) → Run p s b x c
-    → d ≡ test c (f x) r → Run (ensure p f r h) s b x d
-run_ensure {A} {x = x} p f r h e g =
-    record { eq = ap (λ (y : A × State). (y.0, test y.1 (f y.0) r)) e.eq ∙ ap (λ (y : State). (x, y)) (sym g) }
+pub run_ensure : {A : Type 0} {s : List ℕ} {b c d : State} {x : A} (p : Format A) (f : A → Bool) (r : ℕ) (h : T (is_test_refusal r)) → Run p s b x c
+    → d ≡ test b.at c (f x) r → Run (ensure p f r h) s b x d
+run_ensure {A} {b = b} {x = x} p f r h e g =
+    record { eq = ap (λ (y : A × State). (y.0, test b.at y.1 (f y.0) r)) e.eq ∙ ap (λ (y : State). (x, y)) (sym g) }
 
-pub run_exactly : {s : List ℕ} {b c d : State} {v : ℕ} (n w r : ℕ) (h : T (is_reading_refusal r)) → Run (field n) s b v c → d ≡ test c (eqb v w) r
+pub run_exactly : {s : List ℕ} {b c d : State} {v : ℕ} (n w r : ℕ) (h : T (is_test_refusal r)) → Run (field n) s b v c → d ≡ test b.at c (eqb v w) r
     → Run (exactly n w r h) s b tt d
 run_exactly n w r h e g = run_view _ _ _ _ _ _ (run_ensure (field n) (λ x. eqb x w) r h e g)
 

@@ -3,7 +3,8 @@
 use Rattle.std.specs.Prelude.{Bool, true, false, ◌&&◌, ◌||◌, List, [], ◌∷◌, ℕ, zero, suc, ◌+◌, ◌*◌, eqb, leb, length, take, drop, replicate}
 use Rattle.bits.specs.Bit.{val, bits_of}
 
--- a reader's state: the place in bits, and the refusal met so far (0: none)
+-- a reader's state: the place in bits, and the refusal met so far (0: none). Once there is one, the place is the bit at which the field that
+-- was being read began
 pub record State : Type 0 where
   pub at : ℕ
   pub refusal : ℕ
@@ -11,6 +12,10 @@ pub record State : Type 0 where
 -- the refusals of reading are 5 to 9 (document 01, 'What goes back when it cannot be done')
 abbrev pub is_reading_refusal : ℕ → Bool
 is_reading_refusal r = leb 5 r && leb r 9
+
+-- a test refuses with one of the others: 5 is that of a field which passes the end
+abbrev pub is_test_refusal : ℕ → Bool
+is_test_refusal r = leb 6 r && leb r 9
 
 -- none, or one of these
 abbrev pub is_reading_state : State → Bool
@@ -57,11 +62,11 @@ read_bits s b n = let a = ahead s b n in (part_if a.0 s b.at n, a.1)
 unfoldable pub read_bytes : List ℕ → State → ℕ → List ℕ × State
 read_bytes s b n = let a = ahead s b (8 * n) in (bytes_if a.0 s b.at n, a.1)
 
--- ---- a test on what was read: refusal n where it fails and none was met before
-abbrev pub refuse_if : Bool → Bool → State → ℕ → State
-refuse_if true true b n = b
-refuse_if true false b n = record { at = b.at; refusal = n }
-refuse_if false t b n = b
+-- ---- a test on what was read from bit p on: refusal n, and back to p, where it fails and none was met before
+abbrev pub refuse_if : Bool → Bool → ℕ → State → ℕ → State
+refuse_if true true p b n = b
+refuse_if true false p b n = record { at = p; refusal = n }
+refuse_if false t p b n = b
 
-abbrev pub test : State → Bool → ℕ → State
-test b t n = refuse_if (eqb b.refusal 0) t b n
+abbrev pub test : ℕ → State → Bool → ℕ → State
+test p b t n = refuse_if (eqb b.refusal 0) t p b n

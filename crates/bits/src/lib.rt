@@ -4,7 +4,7 @@
 
 ghost use Rattle.std.specs.Prelude.{◌≡◌, ◌+◌, ◌-◌, ◌*◌, ◌/◌, ◌%◌, ◌^◌, ◌≤◌, ◌<◌, true, T, MatchResult, eqb, leb, get_or, length, replicate};
 ghost use Rattle.bits.specs.State.{is_reading_state, clean, ahead, part, read_bytes, test};
-ghost use Rattle.bits.specs.ReadError.{number, number_not_zero};
+ghost use Rattle.bits.specs.ReadError.{kind_number, number, number_not_zero, value_in};
 ghost use Rattle.bits.specs.Format.{field, flag, bytes, field_if, flag_if, minus1_if, sized, bytes_for, padded37};
 ghost use Rattle.bits.specs.Run.{bit_index, state, Run};
 ghost use Rattle.bits.specs.Window.{window_at};
@@ -32,6 +32,14 @@ impl BitPos {
         self.1 % 8
     }
 
+    // Its number among all bits.
+    pub fn index(self) -> usize
+        requires { bit_index self ≤ 18446744073709551615 }
+        ensures { result ≡ bit_index self }
+    {
+        self.0 * 8 + self.1
+    }
+
     // The bits up to the next byte boundary.
     pub fn to_boundary(self) -> usize
         ensures { result ≡ (8 - self.1 % 8) % 8 }
@@ -42,7 +50,7 @@ impl BitPos {
 
 // Why a payload is refused, by its number in docs/ABI.md.
 #[derive(Clone, Copy, Debug, PartialEq, Eq)]
-pub enum ReadError {
+pub enum ReadErrorKind {
     // A header field, or a body among the HDR boxes, needs bits past the end.
     Truncated = 5,
     // The version is not 0.
@@ -55,22 +63,33 @@ pub enum ReadError {
     ChunkPastEnd = 9,
 }
 
+// Why a payload is refused, and the bit at which the field began that was being read; under TrailingBits the first of these bits, under
+// ChunkPastEnd the chunk's first.
+#[derive(Clone, Copy, Debug, PartialEq, Eq)]
+pub struct ReadError {
+    pub kind: ReadErrorKind,
+    pub bit: usize,
+}
+
 impl Refusal for ReadError {
     ghost number = { number };
+
+    ghost value = { value_in };
 
     ghost not_zero = { number_not_zero };
 
     fn number(self) -> u8 {
-        self as u8
+        self.kind as u8
     }
 
-    fn needed(self) -> usize {
-        0
+    fn value(self) -> usize {
+        self.bit
     }
 }
 
-// A reader's state: the bit that comes next, and the number of the refusal met so far (0: none), each of 64 bits. With an Option of an enum as
-// the refusal a header-heavy payload takes 7 parts in 100 longer to read; with a Result at each read, the smallest takes 2.5 times as long.
+// A reader's state: the bit that comes next, or, once a field is refused, the bit at which it began; and the number of the refusal met so far
+// (0: none). Each number has 64 bits. With an Option of an enum as the refusal a header-heavy payload takes 7 parts in 100 longer to read; with a
+// Result at each read, the smallest takes 2.5 times as long.
 // The payload is no field: each read would have to promise that it leaves the same payload, and each sequence of reads to use that.
 #[derive(Clone, Copy, Debug, PartialEq, Eq)]
 pub struct Bits {
@@ -119,7 +138,8 @@ fn field(data: &[u8], at: BitPos, n: u32) -> u32
     (high % size) as u32
 }
 
-// Whether the bit at a place is 1. By itself, as `flag` is beside `read`: as a field of one bit it makes the smallest payload an eighth longer to read.
+// Whether the bit at a place is 1. By itself, as `flag` is beside `read`: as a field of one bit it makes the smallest payload an eighth longer
+// to read.
 fn bit_at(data: &[u8], at: BitPos) -> bool
     requires { bit_index at + 1 ≤ 8 * length «data».now }
     ensures { result ≡ eqb (part «data».now (bit_index at) 1) 1 }
@@ -169,7 +189,7 @@ impl Bits {
             let at = BitPos(self.at.byte() + end / 8, end % 8);
             (true, Bits { at, ..self })
         } else {
-            (false, self.test(false, ReadError::Truncated))
+            (false, self.test(self.at, false, ReadErrorKind::Truncated))
         }
     }
 
@@ -253,23 +273,24 @@ impl Bits {
         }
     }
 
-    // The state after a test: the refusal where it fails and none was met before, of any number, so that callers may have refusals of their own.
+    // The state after a test on what was read from a place on: back at that place with the refusal, where the test fails and none was met before.
+    // Of any number, so that callers may have refusals of their own.
     #[tactic(auto, using(crate::specs::Run::test_passes, crate::specs::Run::test_refuses, crate::specs::Run::test_stuck), unfolding(crate::specs::Run::state))]
-    pub fn test_number(self, ok: bool, refusal: usize) -> Bits
-        ensures { state result ≡ test (state self) ok refusal }
+    pub fn test_number(self, from: BitPos, ok: bool, refusal: usize) -> Bits
+        ensures { state result ≡ test (bit_index from) (state self) ok refusal }
     {
         if ok || self.refusal != 0 {
             self
         } else {
-            Bits { refusal, ..self }
+            Bits { at: from, refusal }
         }
     }
 
     // The same, of a refusal of reading.
-    pub fn test(self, ok: bool, error: ReadError) -> Bits
-        ensures { state result ≡ test (state self) ok (number error) }
+    pub fn test(self, from: BitPos, ok: bool, kind: ReadErrorKind) -> Bits
+        ensures { state result ≡ test (bit_index from) (state self) ok (kind_number kind) }
     {
-        self.test_number(ok, error as usize)
+        self.test_number(from, ok, kind as usize)
     }
 
     // Fills out with bytes as one field: it keeps its zeros where they are not there.
@@ -315,19 +336,24 @@ impl Bits {
         (body, next)
     }
 
-    // The place, or the refusal met. A `match` and no `TryFrom`: 0 is no refusal, so its `Result` would stand inside another.
+    // The place, or the refusal met there. A `match` and no `TryFrom`: 0 is no refusal, so its `Result` would stand inside another.
     #[tactic(auto, using(std::proofs::lemmas::Bool::Decides::nat_tests), unfolding(crate::specs::Run::state))]
     pub fn place(self) -> Result<BitPos, ReadError>
-        requires { T (is_reading_state (state self)) }
-        ensures { MatchResult result (λ at. (self.refusal ≡ 0) × (at ≡ self.at)) (λ e. self.refusal ≡ number e) }
+        requires refusal { T (is_reading_state (state self)) }
+        requires bit { bit_index self.at ≤ 18446744073709551615 }
+        ensures { MatchResult result (λ at. (self.refusal ≡ 0) × (at ≡ self.at)) (λ e. (self.refusal ≡ number e) × (e.bit ≡ bit_index self.at)) }
     {
-        match self.refusal {
-            0 => Ok(self.at),
-            5 => Err(ReadError::Truncated),
-            6 => Err(ReadError::Version),
-            7 => Err(ReadError::FloatDepth),
-            8 => Err(ReadError::TrailingBits),
-            _ => Err(ReadError::ChunkPastEnd),
-        }
+        let kind = match self.refusal {
+            0 => return Ok(self.at),
+            5 => ReadErrorKind::Truncated,
+            6 => ReadErrorKind::Version,
+            7 => ReadErrorKind::FloatDepth,
+            8 => ReadErrorKind::TrailingBits,
+            _ => ReadErrorKind::ChunkPastEnd,
+        };
+        Err(ReadError {
+            kind,
+            bit: self.at.index(),
+        })
     }
 }

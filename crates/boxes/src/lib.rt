@@ -80,7 +80,7 @@ impl Refusal for HeaderError {
         self as u8
     }
 
-    fn needed(self) -> usize {
+    fn value(self) -> usize {
         0
     }
 }

@@ -54,7 +54,7 @@ module _ (i : MinimizedImage) (s : List ℕ) (major minor : ℕ) (brands out : L
   r = refusal_of i s brands
 
   abbrev done : Written × List ℕ
-  done = (record { refusal = 0; len = length f }, overwrite out 0 f)
+  done = (record { refusal = 0; value = length f }, overwrite out 0 f)
 
   -- by the two tests
   by_cases : (P : Written × List ℕ → Type 0) → (r ≡ 0 → length f ≤ length out → P done) → (r ≡ 0 → P (refused 16 (length f) out))
@@ -71,22 +71,22 @@ module _ (i : MinimizedImage) (s : List ℕ) (major minor : ℕ) (brands out : L
       go false h = e (eqb-false r 0 h)
 
   pub expanded_file : {w : Written} {o' : List ℕ} → ◌≡◌ {A = Written × List ℕ} (w, o') (expanded i s major minor brands out) → w.refusal ≡ 0
-      → EveryByte (item_bytes i s) (take w.len o')
+      → EveryByte (item_bytes i s) (take w.value o')
   expanded_file {w} {o'} e =
       subst P (sym e)
       (by_cases P (λ z h. λ k. rw (written out 0 f (omega arith)) (every_byte i s major minor brands z)) (λ z. λ k. absurd (omega arith)) (λ z. λ k. absurd (z k)))
     where
       P : Written × List ℕ → Type 0
-      P x = x.0.refusal ≡ 0 → EveryByte (item_bytes i s) (take x.0.len x.1)
+      P x = x.0.refusal ≡ 0 → EveryByte (item_bytes i s) (take x.0.value x.1)
 
   pub expanded_small : {w : Written} {o' : List ℕ} → ◌≡◌ {A = Written × List ℕ} (w, o') (expanded i s major minor brands out)
-      → (w.refusal ≤ 16) × (w.len < 4294967296)
+      → (w.refusal ≤ 16) × (w.value < 4294967296)
   expanded_small {w} {o'} e =
       subst P (sym e)
       (by_cases P (λ z h. (lit≤ tt, narrow z)) (λ z. (lit≤ tt, narrow z)) (λ z. (omega (arith, refusal_most i s brands), omega arith)))
     where
       P : Written × List ℕ → Type 0
-      P x = (x.0.refusal ≤ 16) × (x.0.len < 4294967296)
+      P x = (x.0.refusal ≤ 16) × (x.0.value < 4294967296)
 
       narrow : r ≡ 0 → length f < 4294967296
       narrow z = file_narrow i s brands (expands i s brands z) major minor
@@ -94,5 +94,5 @@ module _ (i : MinimizedImage) (s : List ℕ) (major minor : ℕ) (brands out : L
   -- all that expanding promises follows from its definition
   pub promised : {w : Written} {o' : List ℕ} → ◌≡◌ {A = Written × List ℕ} (w, o') (expanded i s major minor brands out)
       → (◌≡◌ {A = Written × List ℕ} (w, o') (expanded i s major minor brands out))
-      × ((w.refusal ≡ 0 → EveryByte (item_bytes i s) (take w.len o')) × ((w.refusal ≤ 16) × (w.len < 4294967296)))
+      × ((w.refusal ≡ 0 → EveryByte (item_bytes i s) (take w.value o')) × ((w.refusal ≤ 16) × (w.value < 4294967296)))
   promised e = (e, (expanded_file e, expanded_small e))

@@ -31,10 +31,10 @@ number (TooShort needed) = 16
 pub number_not_zero : (e : ExpandError) → number e ≡ 0 → ⊥
 number_not_zero e = search (rules, arith)
 
--- the length that comes with it
-abbrev pub needed_in : ExpandError → ℕ
-needed_in (TooShort needed) = needed
-needed_in _ = 0
+-- what comes with it: the length needed, else 0
+abbrev pub value_in : ExpandError → ℕ
+value_in (TooShort needed) = needed
+value_in _ = 0
 
 -- the refusal's number in an answer, 0 for none
 abbrev pub refusal_in : {A : Type 0} → Result A ExpandError → ℕ
@@ -42,7 +42,7 @@ refusal_in = any.refusal_in number
 
 -- an answer as a number and a length
 abbrev pub outcome_of : Result ℕ ExpandError → Written
-outcome_of = outcome number needed_in
+outcome_of = outcome number value_in
 
 -- ---- when
 abbrev pub has_native_alpha : MinimizedImage → Bool
@@ -74,11 +74,11 @@ expanded i s major minor brands out =
     let r = refusal_of i s brands in
     let f = file i s major minor brands in
     cond (eqb r 0)
-    (cond (ltb (length out) (length f)) (refused 16 (length f) out) (record { refusal = 0; len = length f }, overwrite out 0 f))
+    (cond (ltb (length out) (length f)) (refused 16 (length f) out) (record { refusal = 0; value = length f }, overwrite out 0 f))
     (refused r 0 out)
 
 -- the length alone, without an output
 unfoldable pub expanded_len : MinimizedImage → List ℕ → (major minor : ℕ) → (brands : List ℕ) → Written
 expanded_len i s major minor brands =
     let r = refusal_of i s brands in
-    cond (eqb r 0) (record { refusal = 0; len = length (file i s major minor brands) }) (record { refusal = r; len = 0 })
+    cond (eqb r 0) (record { refusal = 0; value = length (file i s major minor brands) }) (record { refusal = r; value = 0 })

@@ -70,7 +70,7 @@ pub fn equivalent_file(
 ) -> Result<usize, ExpandError>
     ensures answer { let t = original.entry in (outcome_of result, out.new) ≡ expanded image source.now t.major_brand t.minor_version t.compatible_brands.now out.old }
     ensures every_byte { IfOk result (λ len. EveryByte (item_bytes image source.now) (take len out.new)) }
-    ensures bounds { ((outcome_of result).refusal ≤ 16) × ((outcome_of result).len < 4294967296) }
+    ensures bounds { ((outcome_of result).refusal ≤ 16) × ((outcome_of result).value < 4294967296) }
 {
     let plan = plan(image, source, original)?;
     if out.len() < plan.len {

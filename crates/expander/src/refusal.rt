@@ -2,7 +2,7 @@
 ghost use Rattle.std.specs.Prelude.{◌≡◌, ◌≤◌, true, IfOk};
 ghost use Rattle.ftyp.specs.FileType.{allowed};
 ghost use Rattle.expander.specs.Placed.{Fit};
-ghost use Rattle.expander.specs.Outcome.{is_uuid, number, number_not_zero, needed_in, refusal_in, refusal_of};
+ghost use Rattle.expander.specs.Outcome.{is_uuid, number, number_not_zero, value_in, refusal_in, refusal_of};
 
 use boxes::UUID;
 use ftyp::allowed;
@@ -34,7 +34,7 @@ pub enum ExpandError {
 impl Refusal for ExpandError {
     ghost number = { number };
 
-    ghost needed = { needed_in };
+    ghost value = { value_in };
 
     ghost not_zero = { number_not_zero };
 
@@ -51,7 +51,7 @@ impl Refusal for ExpandError {
         }
     }
 
-    fn needed(self) -> usize {
+    fn value(self) -> usize {
         match self {
             ExpandError::TooShort { needed } => needed,
             _ => 0,

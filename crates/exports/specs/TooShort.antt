@@ -10,5 +10,5 @@ number e = 16
 pub number_not_zero : (e : TooShort) → number e ≡ 0 → ⊥
 number_not_zero e = search (rules, arith)
 
-abbrev pub needed_in : TooShort → ℕ
-needed_in e = e.needed
+abbrev pub value_in : TooShort → ℕ
+value_in e = e.needed

@@ -2,7 +2,7 @@
 ghost use Rattle.std.specs.Prelude.{◌≡◌, ◌<◌, ◌≤◌, length};
 ghost use Rattle.std.specs.Fn.{FnOnceReturnsAtMut, FnOnceTakesAtMut};
 ghost use Rattle.exports.specs.Answer.{unit, packed};
-ghost use Rattle.exports.specs.TooShort.{number, number_not_zero, needed_in};
+ghost use Rattle.exports.specs.TooShort.{number, number_not_zero, value_in};
 ghost use Rattle.refusals.specs.Outcome.{outcome};
 
 use refusals::Refusal;
@@ -18,13 +18,13 @@ pub fn packed(number: u16, value: usize) -> u64
     u64::from(number) * UNIT + value as u64
 }
 
-// A refusal, with the length that it needs.
+// A refusal's number, with its value.
 pub fn refused<E: Refusal>(error: E) -> u64
-    requires { E.needed error < unit }
-    ensures is { result ≡ packed (E.number error) (E.needed error) }
+    requires { E.value error < unit }
+    ensures is { result ≡ packed (E.number error) (E.value error) }
     ensures not_zero { E.number error ≡ 0 → ⊥ }
 {
-    packed(u16::from(error.number()), error.needed())
+    packed(u16::from(error.number()), error.value())
 }
 
 // The output is shorter than the bytes that it shall take.
@@ -36,7 +36,7 @@ pub struct TooShort {
 impl Refusal for TooShort {
     ghost number = { number };
 
-    ghost needed = { needed_in };
+    ghost value = { value_in };
 
     ghost not_zero = { number_not_zero };
 
@@ -44,7 +44,7 @@ impl Refusal for TooShort {
         16
     }
 
-    fn needed(self) -> usize {
+    fn value(self) -> usize {
         self.needed
     }
 }
@@ -65,8 +65,8 @@ pub fn hand_out<F: FnOnce(&mut [u8]) -> usize>(needed: usize, out: &mut [u8], pu
 
 // The answer of a call that looks for room in the output itself: the length that it wrote, or its refusal.
 pub fn of_written<E: Refusal>(wrote: Result<usize, E>) -> u64
-    requires { (outcome E.number E.needed wrote).len < unit }
-    ensures { let w = outcome E.number E.needed wrote in result ≡ packed w.refusal w.len }
+    requires { (outcome E.number E.value wrote).value < unit }
+    ensures { let w = outcome E.number E.value wrote in result ≡ packed w.refusal w.value }
 {
     match wrote {
         Ok(len) => len as u64,

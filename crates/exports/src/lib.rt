@@ -31,7 +31,7 @@ use rewriter::rewrite;
 // Hands out the header that was read, or refuses.
 #[tactic(auto, using(crate::specs::AnswerLaws::refuses))]
 fn answer_header(read: Result<BoxHeader, HeaderError>, out: &mut [u8]) -> u64
-    ensures { Answered (header_refusal read) (header_bytes (header_or_blank read)) out.old out.new result }
+    ensures { Answered (header_refusal read) 0 (header_bytes (header_or_blank read)) out.old out.new result }
 {
     match read {
         Ok(header) => answer::hand_out(HEADER_LEN, out, |out| put_header(out, 0, header)),
@@ -41,15 +41,15 @@ fn answer_header(read: Result<BoxHeader, HeaderError>, out: &mut [u8]) -> u64
 
 // Reads the header of the box at `start` of `buf`, for every buffer and every start.
 pub fn bustardcase_box_header(buf: &[u8], start: usize, out: &mut [u8]) -> u64
-    ensures { Answered (header_refusal (header_at buf.now start)) (header_bytes (header_or_blank (header_at buf.now start))) out.old out.new result }
+    ensures { Answered (header_refusal (header_at buf.now start)) 0 (header_bytes (header_or_blank (header_at buf.now start))) out.old out.new result }
 {
     answer_header(parse_box_header(buf, start), out)
 }
 
 // Reads a payload to its record, for every payload.
-#[tactic(auto, using(crate::specs::AnswerLaws::refuses))]
+#[tactic(auto, using(crate::specs::AnswerLaws::refuses, crate::specs::AnswerLaws::bit_fits))]
 pub fn bustardcase_read(payload: &[u8], out: &mut [u8]) -> u64
-    ensures { Answered (read_mini payload.now).refusal (record_bytes (read_mini payload.now).image) out.old out.new result }
+    ensures { Answered (read_mini payload.now).refusal (read_mini payload.now).bit (record_bytes (read_mini payload.now).image) out.old out.new result }
 {
     match parse(payload) {
         Ok(image) => answer::hand_out(record_len(image), out, |out| put_record(out, 0, image)),
@@ -59,12 +59,13 @@ pub fn bustardcase_read(payload: &[u8], out: &mut [u8]) -> u64
 
 // Writes the record of a payload as a box, in its shortest form, for every payload.
 pub fn bustardcase_rewrite(payload: &[u8], out: &mut [u8]) -> u64
-    ensures { Answered (read_mini payload.now).refusal (box_of (read_mini payload.now).image payload.now) out.old out.new result }
+    ensures { Answered (read_mini payload.now).refusal (read_mini payload.now).bit (box_of (read_mini payload.now).image payload.now) out.old out.new result }
 {
     answer::of_written(rewrite(payload, out))
 }
 
 // Writes the equivalent file of the record of a payload, for every payload and every original file type.
+#[tactic(auto, using(crate::specs::AnswerLaws::bit_fits))]
 pub fn bustardcase_expand(
     payload: &[u8],
     major: u32,
@@ -72,7 +73,7 @@ pub fn bustardcase_expand(
     brands: &[u8],
     out: &mut [u8],
 ) -> u64
-    ensures { Answered (expand_refusal payload.now brands.now) (file (read_mini payload.now).image payload.now major minor brands.now) out.old out.new result }
+    ensures { Answered (expand_refusal payload.now brands.now) (read_mini payload.now).bit (file (read_mini payload.now).image payload.now major minor brands.now) out.old out.new result }
 {
     match parse(payload) {
         Ok(image) => {
@@ -89,7 +90,7 @@ pub fn bustardcase_expand(
 
 // Finds the first box of a type among the boxes that follow one another from the start of `buf`, for every buffer and every type.
 pub fn bustardcase_find_box(buf: &[u8], box_type: u32, out: &mut [u8]) -> u64
-    ensures { Answered (header_refusal (find_box box_type buf.now)) (header_bytes (header_or_blank (find_box box_type buf.now))) out.old out.new result }
+    ensures { Answered (header_refusal (find_box box_type buf.now)) 0 (header_bytes (header_or_blank (find_box box_type buf.now))) out.old out.new result }
 {
     answer_header(find_box(buf, box_type), out)
 }
@@ -97,7 +98,7 @@ pub fn bustardcase_find_box(buf: &[u8], box_type: u32, out: &mut [u8]) -> u64
 // Reads the file type of the payload of an 'ftyp' box, for every payload.
 #[tactic(auto, using(crate::specs::AnswerLaws::refuses))]
 pub fn bustardcase_file_type(body: &[u8], out: &mut [u8]) -> u64
-    ensures { Answered (file_type_refusal (read_file_type body.now)) (file_type_bytes (file_type_or_blank (read_file_type body.now))) out.old out.new result }
+    ensures { Answered (file_type_refusal (read_file_type body.now)) 0 (file_type_bytes (file_type_or_blank (read_file_type body.now))) out.old out.new result }
 {
     match read_file_type(body) {
         Ok(parsed) => answer::hand_out(FILE_TYPE_LEN, out, |out| put_file_type(out, 0, parsed)),
@@ -106,9 +107,9 @@ pub fn bustardcase_file_type(body: &[u8], out: &mut [u8]) -> u64
 }
 
 // Checks the record of a payload against what a display takes, for every payload.
-#[tactic(auto, using(crate::specs::AnswerLaws::refuses))]
+#[tactic(auto, using(crate::specs::AnswerLaws::refuses, crate::specs::AnswerLaws::bit_fits))]
 pub fn bustardcase_check(payload: &[u8], out: &mut [u8]) -> u64
-    ensures { Answered (read_mini payload.now).refusal (check_bytes (read_mini payload.now).image) out.old out.new result }
+    ensures { Answered (read_mini payload.now).refusal (read_mini payload.now).bit (check_bytes (read_mini payload.now).image) out.old out.new result }
 {
     match parse(payload) {
         Ok(image) => answer::hand_out(CHECK_LEN, out, |out| put_check(out, 0, image)),

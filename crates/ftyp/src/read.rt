@@ -20,7 +20,7 @@ impl Refusal for FileTypeError {
         28
     }
 
-    fn needed(self) -> usize {
+    fn value(self) -> usize {
         0
     }
 }

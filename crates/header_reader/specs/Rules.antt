@@ -25,7 +25,7 @@ run_cclv {s} {b} {c} {d} {f} {k} e h g i =
           ∙ ap₂ (λ (x : List ℕ) (y : State). (x, y)) (sym g) (sym i);
     }
 
-pub run_trailing : {s : List ℕ} {b c d : State} {v : ℕ} (n : ℕ) → n ≡ bits_to_boundary b.at → Run (field n) s b v c → d ≡ test c (eqb v 0) 8
+pub run_trailing : {s : List ℕ} {b c d : State} {v : ℕ} (n : ℕ) → n ≡ bits_to_boundary b.at → Run (field n) s b v c → d ≡ test b.at c (eqb v 0) 8
     → d ≡ past_trailing_bits s b
 unfolding past_trailing_bits trailing_bits
 run_trailing {s} {b} n h e f =

@@ -6,14 +6,15 @@ ghost use Rattle.header_reader.specs.Rules.{colour_from};
 ghost use Rattle.mini.specs.Views.{cicp_fields};
 ghost use Rattle.mini.specs.Syntax.{flags, dimensions, chroma, float_format, integer_format, sample_format, explicit_cicp, explicit_codec_types, main_format};
 
-use bits::{Bits, ReadError};
+use bits::{Bits, ReadErrorKind};
 use mini::{Cicp, CodecTypes, DIMENSION, Dimensions, Flags, MainFormat, MiniChroma, SampleFormat};
 
 pub fn read_flags(b: Bits, payload: &[u8]) -> (Flags, Bits)
     ensures { Run flags payload.now (state b) result.0 (state result.1) }
 {
+    let start = b.at;
     let (version, b) = b.read(payload, 2);
-    let b = b.test(version == 0, ReadError::Version);
+    let b = b.test(start, version == 0, ReadErrorKind::Version);
     let (explicit_codec_types, b) = b.flag(payload);
     let (float, b) = b.flag(payload);
     let (full_range, b) = b.flag(payload);
@@ -81,11 +82,12 @@ fn float_bits(code: u8) -> u8
 fn read_float(b: Bits, payload: &[u8]) -> (SampleFormat, Bits)
     ensures { Run float_format payload.now (state b) result.0 (state result.1) }
 {
+    let start = b.at;
     let (code, b) = b.byte(payload, 2);
     let bits = float_bits(code);
     (
         SampleFormat::Float { bits },
-        b.test(code < 3, ReadError::FloatDepth),
+        b.test(start, code < 3, ReadErrorKind::FloatDepth),
     )
 }
 

@@ -6,7 +6,7 @@ ghost use Rattle.mini.specs.Cut.{sum};
 ghost use Rattle.mini.specs.Read.{past_trailing_bits};
 ghost use Rattle.mini.specs.Syntax.{chunk_sizes};
 
-use bits::{Bits, ReadError};
+use bits::{Bits, ReadErrorKind};
 use mini::{CODEC_CONFIG, ChunkSizes, Flags, GainMapHeader, ITEM_DATA, METADATA};
 
 // The eleven sizes are of 28 bits at most, so their sum is at most 11 * 2^28. It stands in the clauses and not in `ChunkSizes`, which is the writer's
@@ -56,6 +56,7 @@ pub fn read_sizes(b: Bits, payload: &[u8], f: Flags, g: GainMapHeader) -> (Chunk
 pub fn read_trailing_bits(b: Bits, payload: &[u8]) -> Bits
     ensures { state result ≡ past_trailing_bits payload.now (state b) }
 {
-    let (padding, b) = b.read(payload, b.at.to_boundary() as u32);
-    b.test(padding == 0, ReadError::TrailingBits)
+    let start = b.at;
+    let (padding, b) = b.read(payload, start.to_boundary() as u32);
+    b.test(start, padding == 0, ReadErrorKind::TrailingBits)
 }

@@ -35,7 +35,7 @@ length_cut [] at s h = refl
 length_cut (z ∷ zs) at s h =
     ap₂ (λ (n : ℕ) (l : List ℕ). n ∷ l) (simp (length-take, length-drop) (omega arith)) (length_cut zs (at + z) s (omega arith))
 
-forward : (s : List ℕ) (i : MinimizedImage) → read_mini s ≡ record { refusal = 0; image = i } → Accepted s i
+forward : (s : List ℕ) (i : MinimizedImage) → read_mini s ≡ record { refusal = 0; bit = 0; image = i } → Accepted s i
 unfolding accepted
 forward s i e =
     let z = ap (λ (r : Reading). r.refusal) e in
@@ -68,7 +68,7 @@ forward s i e =
       held = ap (λ (x : MinimizedImage). chunks_of x s) image ∙ chunks_again h n s r.good;
     }
 
-backward : (s : List ℕ) (i : MinimizedImage) → Accepted s i → read_mini s ≡ record { refusal = 0; image = i }
+backward : (s : List ℕ) (i : MinimizedImage) → Accepted s i → read_mini s ≡ record { refusal = 0; bit = 0; image = i }
 unfolding accepted
 backward s i a =
     let h = a.head in
@@ -89,7 +89,7 @@ backward s i a =
       same = ap (λ (m : List Bool). take (length hb) m) b ∙ take_at hb (bits_of tail) (length hb) refl;
       fit = within_of zs (length s) (chunks_start h) (omega (arith, header-bytes h, length-append (joined a.chunks) a.rest));
     } in
-    reads_back s h r ∙ ap (λ (x : MinimizedImage). record { refusal = 0; image = x }) (sym a.image)
+    reads_back s h r ∙ ap (λ (x : MinimizedImage). record { refusal = 0; bit = 0; image = x }) (sym a.image)
 
-pub accepted_iff : (s : List ℕ) (i : MinimizedImage) → (read_mini s ≡ record { refusal = 0; image = i }) ↔ Accepted s i
+pub accepted_iff : (s : List ℕ) (i : MinimizedImage) → (read_mini s ≡ record { refusal = 0; bit = 0; image = i }) ↔ Accepted s i
 accepted_iff s i = (forward s i, backward s i)

@@ -2,6 +2,7 @@ pub mod AcceptedBits
 pub mod ListIsExact
 pub mod Narrowest
 pub mod RecordHeader
+pub mod RefusedBit
 pub mod RoundTrip
 pub mod RustVectors
 pub mod SomePayload

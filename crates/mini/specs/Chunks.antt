@@ -1,6 +1,6 @@
 -- The chunks that follow the header: ISO/IEC 23008-12 Amd 2, Annex O.3.2; document 01, 'The record and its order of bits'. Their sizes are
 -- given in one order, and they lie in another.
-use Rattle.std.specs.Prelude.{◌≡◌, refl, Bool, true, false, ◌&&◌, List, [], ◌∷◌, ℕ, ◌+◌, leb, Option, Some, None}
+use Rattle.std.specs.Prelude.{◌≡◌, refl, Bool, true, false, cond, ◌&&◌, List, [], ◌∷◌, ℕ, ◌+◌, leb, Option, Some, None}
 use Rattle.mini.specs.Views.{SizeParts, sizes_from}
 use Rattle.octets.specs.declared.Span.{Span}
 use Rattle.mini.specs.declared.ChunkSpans.{ChunkSpans}
@@ -74,6 +74,11 @@ stored_spans z at =
 unfoldable pub end_within : ℕ → ℕ → List ℕ → Bool
 end_within n at [] = true
 end_within n at (size ∷ sizes) = leb (at + size) n && end_within n (at + size) sizes
+
+-- where the first of them begins that does not; where all do, their end
+unfoldable pub first_past : ℕ → ℕ → List ℕ → ℕ
+first_past n at [] = at
+first_past n at (size ∷ sizes) = cond (leb (at + size) n) (first_past n (at + size) sizes) at
 
 -- ---- a chunk of the record
 abbrev pub chunk_if : Bool → Span → Option Span

@@ -1,10 +1,11 @@
 -- A list of bytes cut into chunks of given sizes, one after another, and joined again; all the chunks end within the bytes exactly where
 -- the last does. Assumes nothing.
-use Rattle.std.specs.Prelude.{Bool, true, false, ◌&&◌, ◌≡◌, refl, List, [], ◌∷◌, ◌++◌, map, ℕ, ◌+◌, ◌≤◌, ◌<◌, T, leb, length, take, drop, get_or}
-use Rattle.std.proofs.Common.{sym, ap, ap₂, ◌∙◌, append-nil, append_assoc, add-one, add-zero, add_assoc, arith, leb→le, le→leb, length-append, take-append-drop, take-suc, take_at, drop_at, drop-drop, leb-true, leb-false}
+use Rattle.std.specs.Prelude.{Bool, true, false, cond, ◌&&◌, ◌≡◌, refl, List, [], ◌∷◌, ◌++◌, map, ℕ, ◌+◌, ◌≤◌, ◌<◌, T, leb, length, take, drop, get_or}
+use Rattle.std.proofs.Common.{sym, ap, ap₂, ◌∙◌, append-nil, append_assoc, add-one, add-zero, add_assoc, arith, leb→le, le→leb, length-append, take-append-drop, take-suc, take_at, drop_at, drop-drop, leb-true, leb-false, le-leb}
+use Rattle.std.proofs.lemmas.Bool.{lt-leb}
 use Rattle.std.proofs.lemmas.List.{map-append}
 use Rattle.bits.specs.Format.{and_split, and_join}
-use Rattle.mini.specs.Chunks.{end_within}
+use Rattle.mini.specs.Chunks.{end_within, first_past}
 
 abbrev pub sum : List ℕ → ℕ
 sum [] = 0
@@ -87,3 +88,21 @@ of_within (z ∷ zs) n at l h =
     let w = and_split (leb (at + z) n) (end_within n (at + z) zs) h in
     let r = of_within zs n (at + z) (leb→le (at + z) n w.0) w.1 in
     omega arith
+
+-- ---- where the first begins that ends past n: here, or among those that follow
+pub past_here : (n at z : ℕ) (zs : List ℕ) → n < at + z → first_past n at (z ∷ zs) ≡ at
+unfolding first_past
+past_here n at z zs h = ap (λ (t : Bool). cond t (first_past n (at + z) zs) at) (lt-leb (at + z) n h)
+
+pub past_later : (n at z : ℕ) (zs : List ℕ) → at + z ≤ n → first_past n at (z ∷ zs) ≡ first_past n (at + z) zs
+unfolding first_past
+past_later n at z zs h = ap (λ (t : Bool). cond t (first_past n (at + z) zs) at) (le-leb (at + z) n h)
+
+pub first_past-sum : (zs : List ℕ) (n at : ℕ) → first_past n at zs ≤ at + sum zs
+unfolding first_past
+first_past-sum [] n at = omega arith
+first_past-sum (z ∷ zs) n at = go (leb (at + z) n) (first_past n (at + z) zs) (first_past-sum zs n (at + z))
+  where
+    go : (t : Bool) (k : ℕ) → k ≤ at + z + sum zs → cond t k at ≤ at + (z + sum zs)
+    go true k h = omega arith
+    go false k h = omega arith

@@ -16,6 +16,7 @@ pub mod Payload
 pub mod Ranges
 pub mod Read
 pub mod RecordHeader
+pub mod RefusedBit
 pub mod Refusals
 pub mod RoundTrip
 pub mod Same

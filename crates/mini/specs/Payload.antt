@@ -50,19 +50,19 @@ pub record Reads (s : List ℕ) (h : Header) : Type 0 where
   pub fit : T (end_within (length s) (chunks_start h) (stored_sizes h.sizes))
 
 unfoldable pub accepted : Header → Reading
-accepted h = record { refusal = 0; image = image_of h (chunks_start h) }
+accepted h = record { refusal = 0; bit = 0; image = image_of h (chunks_start h) }
 
 -- ---- what is so printed is accepted
-refuse_none : (s : List ℕ) (h : Header) (p : ℕ) (t : Bool) → T t
-    → reading_if (eqb (refuse_if true t (clean p) 9).refusal 0) (refuse_if true t (clean p) 9).refusal (image_of h (p / 8))
-    ≡ record { refusal = 0; image = image_of h (p / 8) }
-refuse_none s h p true g = refl
-refuse_none s h p false g = absurd g
+refuse_none : (h : Header) (p q : ℕ) (t : Bool) → T t
+    → reading_if (eqb (refuse_if true t q (clean p) 9).refusal 0) (refuse_if true t q (clean p) 9) (image_of h (p / 8))
+    ≡ record { refusal = 0; bit = 0; image = image_of h (p / 8) }
+refuse_none h p q true g = refl
+refuse_none h p q false g = absurd g
 
 chunks_clean : (s : List ℕ) (h : Header) (p : ℕ) → T (end_within (length s) (p / 8) (stored_sizes h.sizes))
-    → read_chunks s h (clean p) ≡ record { refusal = 0; image = image_of h (p / 8) }
+    → read_chunks s h (clean p) ≡ record { refusal = 0; bit = 0; image = image_of h (p / 8) }
 unfolding read_chunks test_chunks
-chunks_clean s h p g = refuse_none s h p (end_within (length s) (p / 8) (stored_sizes h.sizes)) g
+chunks_clean s h p g = refuse_none h p _ (end_within (length s) (p / 8) (stored_sizes h.sizes)) g
 
 pub reads_back : (s : List ℕ) (h : Header) → Reads s h → read_mini s ≡ accepted h
 unfolding header_bits chunks_start accepted read_mini past_trailing_bits
@@ -84,39 +84,49 @@ reads_back s h r =
     ∙ chunks_clean s h (length (l ++ m)) r.fit
 
 -- ---- what is accepted is so printed
-refusal_of_lem : (n : ℕ) (t : Bool) (i : MinimizedImage) → eqb n 0 ≡ t → (reading_if t n i).refusal ≡ 0
-    → (n ≡ 0) × (reading_if t n i ≡ record { refusal = 0; image = i })
-refusal_of_lem n true i e z = (eqb-true n 0 e, refl)
-refusal_of_lem n false i e z = absurd (eqb-false n 0 e z)
+refusal_of_lem : (b : State) (t : Bool) (i : MinimizedImage) → eqb b.refusal 0 ≡ t → (reading_if t b i).refusal ≡ 0
+    → (b.refusal ≡ 0) × (reading_if t b i ≡ record { refusal = 0; bit = 0; image = i })
+refusal_of_lem b true i e z = (eqb-true b.refusal 0 e, refl)
+refusal_of_lem b false i e z = absurd (eqb-false b.refusal 0 e z)
 
 -- the header that reading s finds
 unfoldable pub found : List ℕ → Header
 found s = (header.parse s (clean 0)).0
 
-pub reads_inv : (s : List ℕ) → (read_mini s).refusal ≡ 0 → Reads s (found s)
-unfolding header_bits chunks_start found read_mini read_chunks past_trailing_bits test_chunks
-reads_inv s z =
+-- where it and the trailing bits are accepted, they stand at the payload's start, and the chunks begin behind them
+pub header-found : (s : List ℕ) → (past_trailing_bits s (header.parse s (clean 0)).1).refusal ≡ 0
+    → header.Good (found s)
+    × At s 0 (header_bits (found s))
+    × ((past_trailing_bits s (header.parse s (clean 0)).1).at ≡ length (header_bits (found s)))
+unfolding header_bits found past_trailing_bits
+header-found s z =
     let r = header.parse s (clean 0) in
-    let h = r.0 in
-    let b = past_trailing_bits s r.1 in
-    let w = refusal_of_lem (test_chunks s h.sizes b).refusal _ _ refl z in
-    let g3 = test_passed 9 tt b (end_within (length s) (b.at / 8) (stored_sizes h.sizes)) w.0 in
-    let g2 = (trailing_bits (bits_to_boundary r.1.at)).inv s r.1 g3.0 in
+    let g2 = (trailing_bits (bits_to_boundary r.1.at)).inv s r.1 z in
     let g1 = header.inv s (clean 0) g2.was in
-    let l = header.print h in
+    let l = header.print r.0 in
     let m = (trailing_bits (bits_to_boundary (length l))).print tt in
     let z0 : 0 + length l ≡ length l = zero-add (length l) in
-    let at : r.1.at ≡ length l = g1.moved ∙ z0 in
-    let sm : At s 0 (l ++ m) =
-    at_join s 0 l m g1.same
-    (subst (λ (k : ℕ). At s k m) (sym z0) (subst (λ (k : ℕ). At s k ((trailing_bits (bits_to_boundary k)).print tt)) at g2.same)) in
-    let en : b.at ≡ length (l ++ m) =
-    g2.moved ∙ ap (λ (k : ℕ). k + length ((trailing_bits (bits_to_boundary k)).print tt)) at ∙ sym (length-append l m) in
+    let at : r.1.at ≡ length l = g1.moved ∙ z0 in (
+      g1.good,
+      at_join s 0 l m g1.same
+          (subst (λ (k : ℕ). At s k m) (sym z0) (subst (λ (k : ℕ). At s k ((trailing_bits (bits_to_boundary k)).print tt)) at g2.same)),
+      g2.moved ∙ ap (λ (k : ℕ). k + length ((trailing_bits (bits_to_boundary k)).print tt)) at ∙ sym (length-append l m),
+    )
+
+pub reads_inv : (s : List ℕ) → (read_mini s).refusal ≡ 0 → Reads s (found s)
+unfolding chunks_start found read_mini read_chunks test_chunks
+reads_inv s z =
+    let r = header.parse s (clean 0) in
+    let b = past_trailing_bits s r.1 in
+    let zs = stored_sizes r.0.sizes in
+    let w = refusal_of_lem (test_chunks s r.0.sizes b) _ _ refl z in
+    let t = test_passed 9 tt _ b (end_within (length s) (b.at / 8) zs) w.0 in
+    let g = header-found s t.0 in
     record {
-      good = g1.good;
-      room = at_room s (l ++ m) sm;
-      same = sm;
-      fit = subst (λ (k : ℕ). T (end_within (length s) (k / 8) (stored_sizes h.sizes))) en g3.1;
+      good = g.0;
+      room = at_room s (header_bits r.0) g.1;
+      same = g.1;
+      fit = subst (λ (k : ℕ). T (end_within (length s) (k / 8) zs)) g.2 t.1;
     }
 
 -- the record read is that of the header found
@@ -124,12 +134,12 @@ pub reads_image : (s : List ℕ) → (read_mini s).refusal ≡ 0 → read_mini s
 reads_image s z = reads_back s (found s) (reads_inv s z)
 
 -- ---- a refusal gives the blank record
-blank_of : (n : ℕ) (t : Bool) (i : MinimizedImage) → eqb n 0 ≡ t → ((reading_if t n i).refusal ≡ 0 → ⊥) → (reading_if t n i).image ≡ blank_image
-blank_of n true i e h = absurd (h refl)
-blank_of n false i e h = refl
+blank_of : (b : State) (t : Bool) (i : MinimizedImage) → eqb b.refusal 0 ≡ t → ((reading_if t b i).refusal ≡ 0 → ⊥) → (reading_if t b i).image ≡ blank_image
+blank_of b true i e h = absurd (h refl)
+blank_of b false i e h = refl
 
 pub refused_blank : (s : List ℕ) → ((read_mini s).refusal ≡ 0 → ⊥) → (read_mini s).image ≡ blank_image
 unfolding read_mini read_chunks
 refused_blank s h =
     let r = header.parse s (clean 0) in
-    blank_of (test_chunks s r.0.sizes (past_trailing_bits s r.1)).refusal _ _ refl h
+    blank_of (test_chunks s r.0.sizes (past_trailing_bits s r.1)) _ _ refl h

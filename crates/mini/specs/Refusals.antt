@@ -1,7 +1,7 @@
 -- Reading refuses with 5 to 9 and no other number: document 01, 'What goes back when it cannot be done'.
 use Rattle.std.specs.Prelude.{◌≡◌, Bool, true, false, ◌||◌, List, ℕ, ◌≤◌, ◌/◌, T, eqb, leb, length}
 use Rattle.std.proofs.Common.{arith, eqb→eq, leb→le}
-use Rattle.bits.specs.State.{is_reading_refusal, is_reading_state, clean, test}
+use Rattle.bits.specs.State.{State, is_reading_refusal, is_reading_state, clean}
 use Rattle.bits.specs.Format.{and_split, test_told}
 use Rattle.mini.specs.Chunks.{stored_sizes, end_within}
 use Rattle.mini.specs.Image.{image_of}
@@ -27,18 +27,20 @@ at_most_nine r h = go (eqb r 0) (is_reading_refusal r) (λ t. eqb→eq r 0 t) (�
 pub header_at_most_nine : (s : List ℕ) → (past_trailing_bits s (header.parse s (clean 0)).1).refusal ≤ 9
 header_at_most_nine s = at_most_nine (past_trailing_bits s (header.parse s (clean 0)).1).refusal (header_told s)
 
-same_number : (t : Bool) (r : ℕ) (i : MinimizedImage) → T (eqb r 0 || is_reading_refusal r)
-    → T (eqb (reading_if t r i).refusal 0 || is_reading_refusal (reading_if t r i).refusal)
-same_number true r i h = tt
-same_number false r i h = h
+same_number : (t : Bool) (b : State) (i : MinimizedImage) → T (is_reading_state b)
+    → T (eqb (reading_if t b i).refusal 0 || is_reading_refusal (reading_if t b i).refusal)
+same_number true b i h = tt
+same_number false b i h = h
 
 pub reading_refusals : (s : List ℕ) → T (eqb (read_mini s).refusal 0 || is_reading_refusal (read_mini s).refusal)
 unfolding read_mini read_chunks test_chunks
 reading_refusals s =
     let r = header.parse s (clean 0) in
     let b = past_trailing_bits s r.1 in
-    let t = end_within (length s) (b.at / 8) (stored_sizes r.0.sizes) in
-    same_number (eqb (test b t 9).refusal 0) (test b t 9).refusal (image_of r.0 (b.at / 8)) (test_told 9 tt b t (header_told s))
+    let at = b.at / 8 in
+    let zs = stored_sizes r.0.sizes in
+    same_number (eqb (test_chunks s r.0.sizes b).refusal 0) (test_chunks s r.0.sizes b) (image_of r.0 at)
+    (test_told 9 tt _ b (end_within (length s) at zs) (header_told s))
 
 pub reading_at_most_nine : (s : List ℕ) → (read_mini s).refusal ≤ 9
 reading_at_most_nine s = at_most_nine (read_mini s).refusal (reading_refusals s)

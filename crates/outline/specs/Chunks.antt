@@ -51,6 +51,6 @@ given_order_lem : (z : ChunkSizes) → map (size_of z) given_order ≡ given_siz
 unfolding given_order size_of given_sizes
 given_order_lem z = refl
 
-stored_order_lem : (z : ChunkSizes) → map (size_of z) stored_order ≡ stored_sizes z
+pub stored_order_lem : (z : ChunkSizes) → map (size_of z) stored_order ≡ stored_sizes z
 unfolding stored_order size_of given_sizes stored_sizes
 stored_order_lem z = refl

@@ -1,4 +1,6 @@
 pub mod Chunks
+pub mod Diagnosis
+pub mod DiagnosisLaws
 pub mod Ends
 pub mod OutlineBytes
 pub mod OutlineLaws

@@ -11,7 +11,7 @@ use Rattle.mini.specs.Read.{read_mini}
 use Rattle.mini.specs.declared.MinimizedImage.{MinimizedImage}
 use Rattle.octets.specs.declared.Span.{Span}
 use Rattle.outline.specs.Chunks.{given_order, stored_order, chunk_of, ignored}
-use Rattle.outline.specs.Ends.{◌next◌, header_parts, part_ends}
+use Rattle.outline.specs.Ends.{◌next◌, header_parts, part_states, places, part_ends}
 
 unfoldable pub place_bytes : List ℕ → List ℕ
 place_bytes places = joined (map (be 8) places)
@@ -43,5 +43,5 @@ entries-append i l m =
 
 -- ---- it is as long as docs/ABI.md says
 pub length_outline : (s : List ℕ) (i : MinimizedImage) → length (outline_of s i) ≡ 500
-unfolding outline_of place_bytes part_ends header_parts ◌next◌ entries given_order stored_order entry
+unfolding outline_of place_bytes part_ends places part_states header_parts ◌next◌ entries given_order stored_order entry
 length_outline s i = simp (length-append, length-be, length_chunk)

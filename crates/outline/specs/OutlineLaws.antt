@@ -1,8 +1,8 @@
--- What an outline tells of a payload that is accepted: the parts of the header follow one another and end where the main configuration begins, the chunks
--- have the sizes given and lie one after another in the stored order, and the bytes counted as ignored are not needed. Assumes nothing.
-use Rattle.std.specs.Prelude.{◌≡◌, ℕ, ◌+◌, ◌-◌, ◌*◌, ◌/◌, ◌%◌, ◌≤◌, Bool, true, false, List, [], ◌∷◌, ◌++◌, map, length, take, drop, ◌==◌, nat_lt, slice_index, refl, Option, Some, None}
-use Rattle.std.proofs.Common.{sym, ap, ◌∙◌, subst, arith, take-append-drop, length-take-le, eqb-true}
-use Rattle.std.proofs.lemmas.List.{take-append-le}
+-- What an outline tells of a payload that is accepted: the parts of the header follow one another and end where the main configuration begins, the
+-- chunks have the sizes given and lie one after another in the stored order, and the bytes counted as ignored are not needed. Assumes nothing.
+use Rattle.std.specs.Prelude.{◌≡◌, ℕ, ◌+◌, ◌-◌, ◌*◌, ◌/◌, ◌%◌, ◌≤◌, ◌<◌, Bool, true, false, T, List, [], ◌∷◌, ◌++◌, map, length, take, drop, ◌==◌, nat_lt, slice_index, slice_index_or, refl, Option, Some, None}
+use Rattle.std.proofs.Common.{sym, ap, ap₂, ◌∙◌, subst, arith, length-append, take-append-drop, length-take-le, eqb-true}
+use Rattle.std.proofs.lemmas.List.{get_or-map, take-append-le}
 use Rattle.std.proofs.lemmas.Bool.{eqb-false}
 use Rattle.bits.specs.Bit.{bits_of, bits_of-append, length-bits_of, length-bits_n}
 use Rattle.bits.specs.State.{State, clean}
@@ -22,40 +22,53 @@ use Rattle.mini.specs.declared.Header.{Header}
 use Rattle.mini.specs.declared.MinimizedImage.{MinimizedImage}
 use Rattle.octets.specs.declared.Span.{Span}
 use Rattle.outline.specs.Chunks.{given_order, stored_order, given_chunks, chunk_of, chunks_end, ignored}
-use Rattle.outline.specs.Ends.{Parts, ◌next◌, done, header_parts, part_ends, whole_header}
+use Rattle.outline.specs.Ends.{Parts, ◌next◌, done, header_parts, part_states, places, part_ends, whole_header}
 
 -- ---- the ends of the parts
 -- the eleventh part ends where the header does
 pub header-ends : (s : List ℕ) → slice_index (part_ends s) 10 ≡ (header.parse s (clean 0)).1.at
-unfolding part_ends header_parts ◌next◌
+unfolding part_ends places part_states header_parts ◌next◌
 header-ends s = ap (λ (b : State). b.at) (whole_header s (clean 0))
 
-none_met : (n : ℕ) (t : Bool) (i : MinimizedImage) → (n == 0) ≡ t → (reading_if t n i).refusal ≡ 0 → (n ≡ 0) × ((reading_if t n i).image ≡ i)
-none_met n true i e z = (eqb-true n 0 e, refl)
-none_met n false i e z = absurd (eqb-false n 0 e z)
+none_met : (b : State) (t : Bool) (i : MinimizedImage) → (b.refusal == 0) ≡ t → (reading_if t b i).refusal ≡ 0
+    → (b.refusal ≡ 0) × ((reading_if t b i).image ≡ i)
+none_met b true i e z = (eqb-true b.refusal 0 e, refl)
+none_met b false i e z = absurd (eqb-false b.refusal 0 e z)
 
--- what an accepted payload tells of the header's end, the place after the trailing bits, and the record
+-- an accepted payload meets no refusal before the chunks, and each of them ends within it
+pub accepted_chunks : (s : List ℕ) → (read_mini s).refusal ≡ 0
+    → let b = past_trailing_bits s (header.parse s (clean 0)).1 in
+    (b.refusal ≡ 0) × T (end_within (length s) (b.at / 8) (stored_sizes (header.parse s (clean 0)).0.sizes))
+unfolding read_mini read_chunks test_chunks
+accepted_chunks s z =
+    let r = header.parse s (clean 0) in
+    let b = past_trailing_bits s r.1 in
+    let w = none_met (test_chunks s r.0.sizes b) _ _ refl z in
+    let c = test_passed 9 tt _ b (end_within (length s) (b.at / 8) (stored_sizes r.0.sizes)) w.0 in
+    (c.0, c.1)
+
+-- what it tells of the header's end, the place after the trailing bits, and the record
 record AtChunks (s : List ℕ) : Type 0 where
-  accepts : (header.parse s (clean 0)).1.refusal ≡ 0
   moved : (past_trailing_bits s (header.parse s (clean 0)).1).at ≡ (header.parse s (clean 0)).1.at + (8 - (header.parse s (clean 0)).1.at % 8) % 8
   image : (read_mini s).image ≡ image_of (header.parse s (clean 0)).0 ((past_trailing_bits s (header.parse s (clean 0)).1).at / 8)
 
-at_chunks : (s : List ℕ) → (read_mini s).refusal ≡ 0 → AtChunks s
+at_chunks_lem : (s : List ℕ) → (read_mini s).refusal ≡ 0 → AtChunks s
 unfolding read_mini read_chunks test_chunks past_trailing_bits trailing_bits bits_to_boundary view
-at_chunks s z =
+at_chunks_lem s z =
     let r = header.parse s (clean 0) in
     let b = past_trailing_bits s r.1 in
     let n = (8 - r.1.at % 8) % 8 in
-    let w = none_met (test_chunks s r.0.sizes b).refusal _ _ refl z in
-    let c = test_passed 9 tt b (end_within (length s) (b.at / 8) (stored_sizes r.0.sizes)) w.0 in
-    let g = (trailing_bits n).inv s r.1 c.0 in
-    record { accepts = g.was; moved = omega (arith, g.moved, length-bits_n n 0); image = w.1 }
+    let g = (trailing_bits n).inv s r.1 (accepted_chunks s z).0 in
+    record {
+      moved = omega (arith, g.moved, length-bits_n n 0);
+      image = (none_met (test_chunks s r.0.sizes b) _ _ refl z).1;
+    }
 
 -- and the twelfth where the main configuration begins
 pub main_begins : (s : List ℕ) → (read_mini s).refusal ≡ 0 → slice_index (part_ends s) 11 ≡ 8 * (read_mini s).image.main_codec_config.at
-unfolding part_ends header_parts ◌next◌ image_of stored_spans
+unfolding part_ends places part_states header_parts ◌next◌ image_of stored_spans
 main_begins s z =
-    let a = at_chunks s z in
+    let a = at_chunks_lem s z in
     let p = (past_trailing_bits s (header.parse s (clean 0)).1).at in
     let e : p ≡ 8 * (p / 8) = omega (arith, a.moved) in
     ap (λ (x : State). (past_trailing_bits s x).at) (whole_header s (clean 0))
@@ -68,41 +81,42 @@ Rising from [] to = from ≤ to
 Rising from (end ∷ ends) to = (from ≤ end) × Rising end ends to
 
 abbrev Rises : Parts → Type 0
-Rises k = (s : List ℕ) (b : State) → (k s b).1.refusal ≡ 0 → (b.refusal ≡ 0) × Rising b.at (k s b).0 (k s b).1.at
+Rises k =
+    (s : List ℕ) (b : State) → b.at ≤ 8 * length s
+    → Rising b.at (places (k s b).0) (k s b).1.at × ((k s b).1.at ≤ 8 * length s)
 
 rises_done : Rises done
-unfolding Rising
-rises_done s b z = (z, omega arith)
+unfolding Rising places
+rises_done s b h = (omega arith, h)
 
 rises_next : {A : Type 0} (p : Format A) (k : A → Parts) → ((a : A) → Rises (k a)) → Rises (p next k)
-unfolding Rising ◌next◌
-rises_next p k e s b z =
+unfolding Rising places ◌next◌
+rises_next p k e s b h =
     let r = p.parse s b in
-    let u = e r.0 s r.1 z in
-    let g = p.inv s b u.0 in
-    let m : b.at ≤ r.1.at = omega (arith, g.moved) in
-    (g.was, (m, u.1))
+    let g = p.stays s b h in
+    let u = e r.0 s r.1 g.1 in
+    ((g.0, u.0), u.1)
 
 header_rises : Rises header_parts
 unfolding header_parts
 header_rises =
     rises_next _ _ λ f. rises_next _ _ λ d. rises_next _ _ λ c. rises_next _ _ λ o. rises_next _ _ λ p. rises_next _ _ λ i. rises_next _ _ λ t. rises_next _ _ λ g. rises_next _ _ λ h. rises_next _ _ λ m. rises_next _ _ λ z. rises_done
 
-rising_last : (from : ℕ) (ends : List ℕ) (to last most : ℕ) → Rising from ends to → to ≤ last → last ≤ most → Rising from (ends ++ (last ∷ [])) most
-unfolding Rising
+rising_last : (from : ℕ) (l : List State) (to : ℕ) (last : State) (most : ℕ) → Rising from (places l) to → to ≤ last.at → last.at ≤ most
+    → Rising from (places (l ++ (last ∷ []))) most
+unfolding Rising places
 rising_last from [] to last most r a b = (omega arith, b)
-rising_last from (end ∷ ends) to last most r a b = (r.0, rising_last end ends to last most r.1 a b)
+rising_last from (c ∷ l) to last most r a b = (r.0, rising_last c.at l to last most r.1 a b)
 
-pub ends_rise : (s : List ℕ) → (read_mini s).refusal ≡ 0 → Rising 0 (part_ends s) 2014
-unfolding part_ends
-ends_rise s z =
-    let a = at_chunks s z in
-    let e = whole_header s (clean 0) in
-    let u = header_rises s (clean 0) (ap (λ (b : State). b.refusal) e ∙ a.accepts) in
-    let m : (header.parse s (clean 0)).1.at ≤ (past_trailing_bits s (header.parse s (clean 0)).1).at = omega (arith, a.moved) in
-    rising_last 0 (header_parts s (clean 0)).0 (header_parts s (clean 0)).1.at (past_trailing_bits s (header_parts s (clean 0)).1).at 2014 u.1
-    (subst (λ (b : State). b.at ≤ (past_trailing_bits s b).at) (sym e) m)
-    (subst (λ (b : State). (past_trailing_bits s b).at ≤ 2014) (sym e) (header_end s))
+-- of every payload, refused or not
+pub ends_rise : (s : List ℕ) → Rising 0 (part_ends s) 2014
+unfolding part_ends part_states past_trailing_bits
+ends_rise s =
+    let b = (header_parts s (clean 0)).1 in
+    let u = header_rises s (clean 0) (omega arith) in
+    rising_last 0 (header_parts s (clean 0)).0 b.at (past_trailing_bits s b) 2014 u.0
+    ((trailing_bits (bits_to_boundary b.at)).stays s b u.1).0
+    (subst (λ (c : State). (past_trailing_bits s c).at ≤ 2014) (sym (whole_header s (clean 0))) (header_end s))
 
 -- ---- the chunks of a header's record
 -- a span whose owner is absent has size 0
@@ -155,6 +169,11 @@ unfolding given_order chunk_of given_chunks given_sizes
 given_chunks_lem i z e =
     simp (e.icc, e.tmap_icc, e.gain_map_metadata, e.gain_map_data, e.gain_map_config, e.main_config, e.main_data, e.alpha_data, e.alpha_config, e.exif, e.xmp)
 
+stored_chunks_lem : (i : MinimizedImage) (z : ChunkSizes) → Sized i z → map chunk_len (map (chunk_of i) stored_order) ≡ stored_sizes z
+unfolding stored_order chunk_of given_chunks stored_sizes
+stored_chunks_lem i z e =
+    simp (e.icc, e.tmap_icc, e.gain_map_metadata, e.gain_map_data, e.gain_map_config, e.main_config, e.main_data, e.alpha_data, e.alpha_config, e.exif, e.xmp)
+
 -- absent ones passed over, each begins where the one before ends
 unfoldable pub Adjoin : ℕ → List (Option Span) → Type 0
 Adjoin at [] = Unit {0}
@@ -195,6 +214,40 @@ stored_chunks h at good =
     (adjoin_next true p.main_data _ refl
     (adjoin_next f.exif p.exif _ e.exif
     (adjoin_next f.xmp p.xmp [] e.xmp (adjoin_none _)))))))))))
+
+-- one that has bytes is there, and begins where those before it end
+adjoined : (l : List (Option Span)) (at : ℕ) (before : List ℕ) (size : ℕ) (after : List ℕ) → Adjoin at l → map chunk_len l ≡ before ++ (size ∷ after)
+    → 0 < size → slice_index_or l (length before) None ≡ Some (record { at = at + sum before; len = size })
+unfolding Adjoin
+adjoined [] at [] size after a e h = absurd (cc)
+adjoined [] at (y ∷ before) size after a e h = absurd (cc)
+adjoined (None ∷ l) at [] size after a e h = let same : 0 ≡ size = cc in absurd (omega (arith, same))
+adjoined (Some x ∷ l) at [] size after a e h =
+    let same : x.len ≡ size = cc in
+    let begins : x.at ≡ at + sum [] = omega (arith, a.0) in
+    ap₂ (λ (k n : ℕ). Some (record { at = k; len = n })) begins same
+adjoined (None ∷ l) at (y ∷ before) size after a e h =
+    let same : 0 ≡ y = cc in
+    let rest : map chunk_len l ≡ before ++ (size ∷ after) = cc in
+    let sums : at + sum before ≡ at + sum (y ∷ before) = omega (arith, same) in
+    adjoined l at before size after a rest h ∙ ap (λ (k : ℕ). Some (record { at = k; len = size })) sums
+adjoined (Some x ∷ l) at (y ∷ before) size after a e h =
+    let same : x.len ≡ y = cc in
+    let rest : map chunk_len l ≡ before ++ (size ∷ after) = cc in
+    let sums : at + x.len + sum before ≡ at + sum (y ∷ before) = omega (arith, same) in
+    adjoined l (at + x.len) before size after a.1 rest h ∙ ap (λ (k : ℕ). Some (record { at = k; len = size })) sums
+
+pub chunk_begins : (h : Header) (at : ℕ) → header.Good h → (before : List ℕ) (size : ℕ) (after : List ℕ)
+    → stored_sizes h.sizes ≡ before ++ (size ∷ after) → 0 < size
+    → chunk_of (image_of h at) (slice_index stored_order (length before)) ≡ Some (record { at = at + sum before; len = size })
+unfolding stored_order stored_sizes
+chunk_begins h at good before size after e n =
+    let i = image_of h at in
+    let l : length (before ++ (size ∷ after)) ≡ length before + length (size ∷ after) = length-append before (size ∷ after) in
+    let eleven : 11 ≡ length (before ++ (size ∷ after)) = ap length e in
+    sym (get_or-map (chunk_of i) stored_order (length before) 0 None (omega (arith, l, eleven)))
+    ∙ adjoined (map (chunk_of i) stored_order) at before size after (stored_chunks h at good)
+    (stored_chunks_lem i h.sizes (sized h at good) ∙ e) n
 
 chunks_end_lem : (h : Header) (at : ℕ) → header.Good h → chunks_end (image_of h at) ≡ at + sum (stored_sizes h.sizes)
 unfolding chunks_end stored_sizes image_of stored_spans

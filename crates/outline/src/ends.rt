@@ -3,7 +3,7 @@ ghost use Rattle.std.specs.Prelude.{◌≡◌, ◌+◌, ◌≤◌, length};
 ghost use Rattle.octets.specs.BigEndian.{be};
 ghost use Rattle.octets.specs.Overwrite.{Wrote};
 ghost use Rattle.bits.specs.Run.{state};
-ghost use Rattle.outline.specs.Ends.{part_ends, places};
+ghost use Rattle.outline.specs.Ends.{part_states, places, states};
 ghost use Rattle.outline.specs.OutlineBytes.{place_bytes};
 
 use bits::{BitPos, Bits};
@@ -17,7 +17,7 @@ use octets::put;
 
 // The state after each part, by name: each part is read in its own way.
 pub fn read_ends(payload: &[u8]) -> [Bits; 12]
-    ensures { places result ≡ part_ends payload.now }
+    ensures { states result ≡ part_states payload.now }
 {
     let (f, flags) = read_flags(Bits::new(), payload);
     let (d, dimensions) = read_dimensions(flags, payload);
@@ -59,7 +59,7 @@ fn put_place(out: &mut [u8], at: usize, b: Bits) -> usize
 
 pub fn put_ends(out: &mut [u8], at: usize, ends: &[Bits; 12]) -> usize
     requires { at + 96 ≤ length out.old }
-    ensures { Wrote out.old at 96 (place_bytes (places ends.now)) out.new result }
+    ensures { Wrote out.old at 96 (place_bytes (places (states ends.now))) out.new result }
 {
     let mut at = at;
     for &b in ends {

@@ -1,4 +1,4 @@
-// Where the parts of a payload lie, as bytes (docs/ABI.md, `bustardcase_outline`).
+// Where the parts of a payload lie, and where its reading broke off, as bytes (docs/ABI.md, `bustardcase_outline` and `bustardcase_diagnose`).
 #![tactic(auto)]
 
 ghost use Rattle.std.specs.Prelude.{◌+◌, ◌≤◌, length};
@@ -6,6 +6,7 @@ ghost use Rattle.octets.specs.Overwrite.{Wrote};
 ghost use Rattle.outline.specs.OutlineBytes.{outline_of};
 
 pub mod chunks;
+pub mod diagnosis;
 pub mod ends;
 
 use mini::MinimizedImage;

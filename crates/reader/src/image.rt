@@ -2,12 +2,12 @@
 ghost use Rattle.std.specs.Prelude.{◌≡◌, ◌+◌, ◌≤◌};
 ghost use Rattle.bits.specs.Run.{bit_index};
 ghost use Rattle.bits.specs.State.{clean};
-ghost use Rattle.mini.specs.Chunks.{stored_sizes, stored_spans, span_if};
+ghost use Rattle.mini.specs.Chunks.{stored_sizes, stored_spans, first_past, span_if};
 ghost use Rattle.mini.specs.Image.{gain_map_of, image_of};
 ghost use Rattle.mini.specs.Cut.{sum};
 ghost use Rattle.mini.specs.Read.{reading_of, read_chunks};
 
-use bits::{BitPos, ReadError};
+use bits::{BitPos, ReadError, ReadErrorKind};
 use mini::{
     ChunkSizes, ChunkSpans, GainMapHeader, Header, MiniGainMap, MiniHdrBoxes, MinimizedImage, Span,
 };
@@ -36,6 +36,41 @@ fn chunks_len(z: ChunkSizes) -> usize
         + z.main_data
         + z.exif
         + z.xmp
+}
+
+// The lengths of the chunks in stored order.
+#[tactic(auto, unfolding(mini::specs::Chunks::stored_sizes))]
+fn stored_sizes(z: ChunkSizes) -> [usize; 11]
+    ensures { result ≡ stored_sizes z }
+{
+    [
+        z.main_codec_config,
+        z.alpha_codec_config,
+        z.gain_map_codec_config,
+        z.icc,
+        z.tmap_icc,
+        z.gain_map_metadata,
+        z.alpha_data,
+        z.gain_map_data,
+        z.main_data,
+        z.exif,
+        z.xmp,
+    ]
+}
+
+// Where the first part begins that ends past n bytes, of parts that lie one after another from the byte `at` on; where none does, their end.
+fn first_past(n: usize, at: usize, sizes: &[usize]) -> usize
+    requires { at + sum sizes.now ≤ 18446744073709551615 }
+    ensures { result ≡ first_past n at sizes.now }
+{
+    let mut at = at;
+    for &size in sizes {
+        if n < at + size {
+            return at;
+        }
+        at += size;
+    }
+    at
 }
 
 // The chunks in stored order, the first from the byte `at` on: by name, as the definition lists them.
@@ -94,7 +129,7 @@ fn gain_map_of(g: GainMapHeader, tmap_hdr: MiniHdrBoxes, p: ChunkSpans) -> MiniG
 
 // The record that a header gives, with its chunks from the byte `at` on.
 #[tactic(auto, unfolding(mini::specs::Image::image_of))]
-fn image_of(h: Header, at: usize) -> MinimizedImage
+pub fn image_of(h: Header, at: usize) -> MinimizedImage
     requires { at + sum (stored_sizes h.sizes) ≤ 18446744073709551615 }
     ensures { result ≡ image_of h at }
 {
@@ -127,17 +162,19 @@ fn image_of(h: Header, at: usize) -> MinimizedImage
     }
 }
 
-// The record of a header whose chunks begin at the byte boundary `at`.
+// The record of a header whose chunks begin at the byte boundary `at`: no header has more than 2,014 bits.
 pub fn read_chunks(at: BitPos, payload: &[u8], h: Header) -> Result<MinimizedImage, ReadError>
-    requires { sum (stored_sizes h.sizes) ≤ 2952790016 }
+    requires sizes_bound { sum (stored_sizes h.sizes) ≤ 2952790016 }
+    requires at_bound { bit_index at ≤ 2014 }
     ensures { reading_of result ≡ read_chunks payload.now h (clean (bit_index at)) }
 {
-    if payload.len() < at.0 {
-        return Err(ReadError::ChunkPastEnd);
-    }
     let start = at.byte();
     if payload.len() < start + chunks_len(h.sizes) {
-        return Err(ReadError::ChunkPastEnd);
+        let past = first_past(payload.len(), start, &stored_sizes(h.sizes));
+        return Err(ReadError {
+            kind: ReadErrorKind::ChunkPastEnd,
+            bit: 8 * past,
+        });
     }
     Ok(image_of(h, start))
 }

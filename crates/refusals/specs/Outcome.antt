@@ -6,12 +6,12 @@ abbrev pub refusal_in : {A E : Type 0} → (number : E → ℕ) → Result A E �
 refusal_in number (Ok x) = 0
 refusal_in number (Err e) = number e
 
--- 0 or the refusal's number, and the length written; the length needed with 16, else 0
+-- 0 with the length written, or a refusal's number with its value: the length needed with 16, the bit with 5 to 9 (document 02, point 5), else 0
 pub record Written : Type 0 where
   pub refusal : ℕ
-  pub len : ℕ
+  pub value : ℕ
 
--- a length or a refusal, by the number of each and the length that comes with it
-abbrev pub outcome : {E : Type 0} → (number needed : E → ℕ) → Result ℕ E → Written
-outcome number needed (Ok len) = record { refusal = 0; len = len }
-outcome number needed (Err e) = record { refusal = number e; len = needed e }
+-- a length or a refusal, by the number and the value of each
+abbrev pub outcome : {E : Type 0} → (number value : E → ℕ) → Result ℕ E → Written
+outcome number value (Ok len) = record { refusal = 0; value = len }
+outcome number value (Err e) = record { refusal = number e; value = value e }

@@ -1,4 +1,4 @@
-// Why a call refuses, as callers outside see it: a number, and the length that the call needs where that is why (docs/ABI.md).
+// Why a call refuses, as callers outside see it: a number, with the length that the call needs or the bit at which reading broke off (docs/ABI.md).
 #![tactic(auto)]
 
 ghost use Rattle.std.specs.Prelude.{◌≡◌, ℕ};
@@ -8,15 +8,15 @@ pub trait Refusal: Copy {
     // The number of each refusal (docs/ABI.md).
     ghost number: { Self → ℕ };
 
-    // The length that comes with it: the one needed, else 0.
-    ghost needed: { Self → ℕ } = { λ _. 0 };
+    // The value that comes with it: the length needed, the bit at which reading broke off, else 0.
+    ghost value: { Self → ℕ } = { λ _. 0 };
 
-    // Both are numbers, but two facts of an error. `needed` has no provided body: 0 would have to be right for every `needed` that an `impl` states.
+    // Both are numbers, but two facts of an error. `value` has no provided body: 0 would have to be right for every `value` that an `impl` states.
     fn number(self) -> u8
         ensures { result ≡ number self };
 
-    fn needed(self) -> usize
-        ensures { result ≡ needed self };
+    fn value(self) -> usize
+        ensures { result ≡ value self };
 
     // No refusal is 0, which stands for success.
     ghost not_zero: { (e : Self) → number e ≡ 0 → ⊥ };

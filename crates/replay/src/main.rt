@@ -10,7 +10,7 @@ use std::str::SplitWhitespace;
 // What an output holds before the call.
 const FILLER: u8 = 0xa5;
 
-// An answer is a refusal's number times this, plus a length: written out here, since the tables hold what callers see.
+// An answer is a refusal's number times this, plus a value: written out here, since the tables hold what callers see.
 const UNIT: u64 = 1 << 48;
 
 // The bytes of a field: hexadecimal, or '-' for none.
@@ -27,22 +27,24 @@ fn number(field: Option<&str>) -> anyhow::Result<u64> {
     Ok(field.context("a number is missing")?.parse::<u64>()?)
 }
 
-// Whether a call with an output full of filler answers what the rest of its line says: the number of a refusal, and the bytes that it writes, the
-// filler after them.
+// Whether a call with an output full of filler answers a refusal's number with its bit, or the length of the bytes that the rest of its line says,
+// and writes these, the filler after them.
 fn agrees<F: FnOnce(&mut [u8]) -> u64>(
     alloc: Global,
     mut fields: SplitWhitespace,
+    refusal: u64,
+    bit: u64,
     out: &mut [u8],
     call: F,
 ) -> anyhow::Result<bool>
     requires { F.IsAlwaysCallable call }
 {
-    let refusal = number(fields.next())?;
     let want = bytes(alloc, fields.next())?;
+    let value = if refusal == 0 { want.len() as u64 } else { bit };
     let answer = call(out);
     Ok(
         answer / UNIT == refusal
-            && answer % UNIT == want.len() as u64
+            && answer % UNIT == value
             && out.starts_with(&want)
             && out[want.len()..].iter().all(|&b| b == FILLER),
     )
@@ -53,21 +55,28 @@ fn box_header_agrees(alloc: Global, line: &str) -> anyhow::Result<bool> {
     let mut fields = line.split_whitespace();
     let buf = bytes(alloc, fields.next())?;
     let start = number(fields.next())?;
+    let refusal = number(fields.next())?;
     agrees(
         alloc,
         fields,
+        refusal,
+        0,
         &mut [FILLER; 64],
         |out| exports::bustardcase_box_header(&buf, start as usize, out),
     )
 }
 
-// One line: a payload, the number of a refusal, and the record's bytes.
+// One line: a payload, the number of a refusal and its bit, and the record's bytes.
 fn reading_agrees(alloc: Global, line: &str) -> anyhow::Result<bool> {
     let mut fields = line.split_whitespace();
     let payload = bytes(alloc, fields.next())?;
+    let refusal = number(fields.next())?;
+    let bit = number(fields.next())?;
     agrees(
         alloc,
         fields,
+        refusal,
+        bit,
         &mut [FILLER; 512],
         |out| exports::bustardcase_read(&payload, out),
     )

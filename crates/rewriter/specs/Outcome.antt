@@ -1,4 +1,4 @@
--- What rewriting answers, as the number of a refusal and a length.
+-- What rewriting answers, as the number of a refusal and a value.
 use Rattle.std.specs.Prelude.{◌≡◌, ℕ, Result}
 use Rattle.bits.specs.ReadError as read
 use Rattle.refusals.specs.Outcome.{Written, outcome}
@@ -16,10 +16,10 @@ pub number_not_zero : (e : RewriteError) → number e ≡ 0 → ⊥
 number_not_zero (Reading e) = read.number_not_zero e
 number_not_zero (Writing e) = written.number_not_zero e
 
--- the length that comes with it
-abbrev pub needed_in : RewriteError → ℕ
-needed_in (Reading e) = 0
-needed_in (Writing e) = written.needed_in e
+-- what comes with it: the bit of a refusal of reading, the length that writing needs, else 0
+abbrev pub value_in : RewriteError → ℕ
+value_in (Reading e) = read.value_in e
+value_in (Writing e) = written.value_in e
 
 abbrev pub outcome_of : Result ℕ RewriteError → Written
-outcome_of = outcome number needed_in
+outcome_of = outcome number value_in

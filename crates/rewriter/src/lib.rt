@@ -1,8 +1,8 @@
 // Rewriting: a payload read, and its record written as a box in its shortest form.
 #![tactic(auto)]
 
-ghost use Rattle.std.specs.Prelude.{◌≡◌, ◌≤◌, ◌<◌, take, drop, IfOk};
-ghost use Rattle.rewriter.specs.Outcome.{number, number_not_zero, needed_in, outcome_of};
+ghost use Rattle.std.specs.Prelude.{◌≡◌, ◌⊎◌, ◌≤◌, ◌<◌, take, drop, IfOk};
+ghost use Rattle.rewriter.specs.Outcome.{number, number_not_zero, value_in, outcome_of};
 ghost use Rattle.rewriter.specs.Rewritten.{rewritten, WrittenBack};
 ghost use Rattle.rewriter.specs.declared.RewriteError.TheVariants.{Reading, Writing};
 
@@ -37,7 +37,7 @@ impl From<WriteError> for RewriteError {
 impl Refusal for RewriteError {
     ghost number = { number };
 
-    ghost needed = { needed_in };
+    ghost value = { value_in };
 
     ghost not_zero = { number_not_zero };
 
@@ -48,20 +48,23 @@ impl Refusal for RewriteError {
         }
     }
 
-    fn needed(self) -> usize {
+    fn value(self) -> usize {
         match self {
-            RewriteError::Reading(error) => error.needed(),
-            RewriteError::Writing(error) => error.needed(),
+            RewriteError::Reading(error) => error.value(),
+            RewriteError::Writing(error) => error.value(),
         }
     }
 }
 
-// The record of a payload as a box; its length.
+// The record of a payload as a box; its length. A `match`: a `?` copies the record, and the smallest payload takes a fifteenth longer.
 pub fn rewrite(payload: &[u8], out: &mut [u8]) -> Result<usize, RewriteError>
     ensures answer { (outcome_of result, out.new) ≡ rewritten payload.now out.old }
     ensures written_back { IfOk result (λ len. WrittenBack payload.now (drop 8 (take len out.new))) }
-    ensures bounds { ((outcome_of result).refusal ≤ 16) × ((outcome_of result).len < 4294967296) }
+    ensures bounds { ((outcome_of result).refusal ≤ 16) × ((outcome_of result).value < 281474976710656) }
+    ensures len { let w = outcome_of result in (w.refusal ≡ 0) ⊎ (w.refusal ≡ 16) → w.value < 4294967296 }
 {
-    let image = parse(payload)?;
-    Ok(to_box(image, payload, out)?)
+    match parse(payload) {
+        Ok(image) => Ok(to_box(image, payload, out)?),
+        Err(error) => Err(error.into()),
+    }
 }

@@ -30,7 +30,7 @@ use Rattle.expander.specs.Outcome.{refusal_of}
 use Rattle.bits.specs.State.{ahead, part, bytes_of, bytes_at, read_bits, read_bytes}
 use Rattle.bits.specs.Format.{◌>>=◌, view}
 use Rattle.mini.specs.Blank.{blank_hdr_boxes, blank_gain_map, blank_image}
-use Rattle.mini.specs.Chunks.{stored_sizes, stored_spans, end_within}
+use Rattle.mini.specs.Chunks.{stored_sizes, stored_spans, end_within, first_past}
 use Rattle.mini.specs.Image.{image_of}
 use Rattle.mini.specs.Payload.{header_bits, chunks_start}
 use Rattle.mini.specs.Read.{bits_to_boundary, past_trailing_bits, test_chunks, read_chunks, read_mini, Reading}
@@ -61,14 +61,15 @@ pub data Outcome : Type 0 where
 
 unfoldable pub outcome : Call → Outcome
 outcome (reading payload) = reads (read_mini payload)
-outcome (rewriting payload out) = returns (answer (read_mini payload).refusal (box_of (read_mini payload).image payload) out)
+outcome (rewriting payload out) = returns (answer (read_mini payload).refusal (read_mini payload).bit (box_of (read_mini payload).image payload) out)
 outcome (expanding payload major minor brands) =
     let r = expand_refusal payload brands in
     let f = file (read_mini payload).image payload major minor brands in
     cond (eqb r 0) (expands 0 (length f) (locations_in f)) (expands r 0 [])
 
-unfoldable pub refused : ℕ → Outcome
-refused n = reads (record { refusal = n; image = blank_image })
+-- the number, and the bit
+unfoldable pub refused : ℕ → ℕ → Outcome
+refused n bit = reads (record { refusal = n; bit = bit; image = blank_image })
 
 -- 1 by 1, orientation 1, integer 8 bits, main data the byte at 7, no other chunk
 unfoldable pub smallest : Outcome
@@ -76,6 +77,7 @@ smallest =
     reads
     (record {
       refusal = 0;
+      bit = 0;
       image =
           record {
             explicit_codec_types = None;
@@ -124,13 +126,13 @@ mif3 = 0x6D ∷ 0x69 ∷ 0x66 ∷ 0x33 ∷ []
 
 unfoldable pub table : List (Call × Outcome)
 table =
-    (reading [], refused 5)
-    ∷ (reading (0x40 ∷ []), refused 6)
-    ∷ (reading (0x10 ∷ 0x00 ∷ 0x00 ∷ 0x01 ∷ 0x80 ∷ []), refused 7)
+    (reading [], refused 5 0)
+    ∷ (reading (0x40 ∷ []), refused 6 0)
+    ∷ (reading (0x10 ∷ 0x00 ∷ 0x00 ∷ 0x01 ∷ 0x80 ∷ []), refused 7 31)
     ∷ (reading (zeros 7 ++ 0xAA ∷ []), smallest)
-    ∷ (reading (zeros 7), refused 9)
-    ∷ (reading (zeros 6 ++ 0x01 ∷ 0xAA ∷ []), refused 8)
-    ∷ (reading (zeros 6 ++ 0x10 ∷ 0xAA ∷ []), refused 9)
+    ∷ (reading (zeros 7), refused 9 56)
+    ∷ (reading (zeros 6 ++ 0x01 ∷ 0xAA ∷ []), refused 8 52)
+    ∷ (reading (zeros 6 ++ 0x10 ∷ 0xAA ∷ []), refused 9 56)
     ∷ (reading (zeros 7 ++ 0xAA ∷ 0xFF ∷ 0xFF ∷ []), smallest)
     ∷ (rewriting (zeros 7 ++ 0xAA ∷ []) (output 18), returns (16, smallest_box ++ output 2))
     ∷ (rewriting (0x00 ∷ 0x00 ∷ 0x80 ∷ (zeros 6 ++ 0xAA ∷ [])) (output 18), returns (16, smallest_box ++ output 2))
@@ -143,7 +145,7 @@ typed_image = (read_mini typed).image
 
 -- what walking that file finds is by the theorem of crate expander; all else is computed
 expand_line : outcome (expanding typed MIF3 0 mif3) ≡ expands 0 484 (record { id = 1; off = 483; len = 1 } ∷ [])
-unfolding outcome refused smallest zeros output smallest_box table answer typed mif3 expand_refusal refusal_of well_placed writable allowed file ftyp ftyp_body major_of renamed brands_of has_brand meta meta_body item_boxes hdlr hdlr_body pitm pitm_body iinf iinf_body infe_entries infe infe_fields iref references iref_box iref_body iprp ipco slots_bytes slots picture_slots main_slots alpha_slots orientation_slots hdr_slots tone_map_slots gain_map_slots tmap_slots free ispe ispe_body pixi pixi_body channel_bytes nclx nclx_body full_box turns_of turn_table ipma ipma_with ipma_body main_row alpha_row tmap_row gain_map_row kept row iloc iloc_body entry locations data_lengths item_set item_bytes item_data mdat walk header_at size_at bounded typed_at num part_of meta_in iloc_in locations_in read_locations full_box_header overwrite be box_header boxed box_of payload_of payload_with header_of header_with least chunks_of header_bits chunks_start float_code ahead part bytes_of bytes_at read_bits read_bytes ◌>>=◌ view flags dimensions chroma float_format integer_format sample_format explicit_cicp explicit_codec_types main_format tmap_cicp gain_map_dimension gain_map_format gain_map_header cclv_more cclv cclv_for hdr_boxes chunk_sizes header trailing_bits stored_sizes stored_spans end_within image_of bits_to_boundary past_trailing_bits test_chunks read_chunks read_mini
+unfolding outcome refused smallest zeros output smallest_box table answer typed mif3 expand_refusal refusal_of well_placed writable allowed file ftyp ftyp_body major_of renamed brands_of has_brand meta meta_body item_boxes hdlr hdlr_body pitm pitm_body iinf iinf_body infe_entries infe infe_fields iref references iref_box iref_body iprp ipco slots_bytes slots picture_slots main_slots alpha_slots orientation_slots hdr_slots tone_map_slots gain_map_slots tmap_slots free ispe ispe_body pixi pixi_body channel_bytes nclx nclx_body full_box turns_of turn_table ipma ipma_with ipma_body main_row alpha_row tmap_row gain_map_row kept row iloc iloc_body entry locations data_lengths item_set item_bytes item_data mdat walk header_at size_at bounded typed_at num part_of meta_in iloc_in locations_in read_locations full_box_header overwrite be box_header boxed box_of payload_of payload_with header_of header_with least chunks_of header_bits chunks_start float_code ahead part bytes_of bytes_at read_bits read_bytes ◌>>=◌ view flags dimensions chroma float_format integer_format sample_format explicit_cicp explicit_codec_types main_format tmap_cicp gain_map_dimension gain_map_format gain_map_header cclv_more cclv cclv_for hdr_boxes chunk_sizes header trailing_bits stored_sizes stored_spans end_within first_past image_of bits_to_boundary past_trailing_bits test_chunks read_chunks read_mini
 expand_line =
     let n : length (file typed_image typed MIF3 0 mif3) ≡ 484 = refl in
     let z : refusal_of typed_image typed mif3 ≡ 0 = refl in
@@ -155,5 +157,5 @@ expand_line =
     (locations_found typed_image typed MIF3 0 mif3 x ∙ ap (λ (k : ℕ). locations k (data_lengths typed_image)) c ∙ l)
 
 pub lines : map (λ l. outcome l.0) table ≡ map (λ l. l.1) table
-unfolding outcome refused smallest zeros output smallest_box table answer typed mif3 expand_refusal refusal_of well_placed writable allowed file ftyp ftyp_body major_of renamed brands_of has_brand meta meta_body item_boxes hdlr hdlr_body pitm pitm_body iinf iinf_body infe_entries infe infe_fields iref references iref_box iref_body iprp ipco slots_bytes slots picture_slots main_slots alpha_slots orientation_slots hdr_slots tone_map_slots gain_map_slots tmap_slots free ispe ispe_body pixi pixi_body channel_bytes nclx nclx_body full_box turns_of turn_table ipma ipma_with ipma_body main_row alpha_row tmap_row gain_map_row kept row iloc iloc_body entry locations data_lengths item_set item_bytes item_data mdat walk header_at size_at bounded typed_at num part_of meta_in iloc_in locations_in read_locations full_box_header overwrite be box_header boxed box_of payload_of payload_with header_of header_with least chunks_of header_bits chunks_start float_code ahead part bytes_of bytes_at read_bits read_bytes ◌>>=◌ view flags dimensions chroma float_format integer_format sample_format explicit_cicp explicit_codec_types main_format tmap_cicp gain_map_dimension gain_map_format gain_map_header cclv_more cclv cclv_for hdr_boxes chunk_sizes header trailing_bits stored_sizes stored_spans end_within image_of bits_to_boundary past_trailing_bits test_chunks read_chunks read_mini
+unfolding outcome refused smallest zeros output smallest_box table answer typed mif3 expand_refusal refusal_of well_placed writable allowed file ftyp ftyp_body major_of renamed brands_of has_brand meta meta_body item_boxes hdlr hdlr_body pitm pitm_body iinf iinf_body infe_entries infe infe_fields iref references iref_box iref_body iprp ipco slots_bytes slots picture_slots main_slots alpha_slots orientation_slots hdr_slots tone_map_slots gain_map_slots tmap_slots free ispe ispe_body pixi pixi_body channel_bytes nclx nclx_body full_box turns_of turn_table ipma ipma_with ipma_body main_row alpha_row tmap_row gain_map_row kept row iloc iloc_body entry locations data_lengths item_set item_bytes item_data mdat walk header_at size_at bounded typed_at num part_of meta_in iloc_in locations_in read_locations full_box_header overwrite be box_header boxed box_of payload_of payload_with header_of header_with least chunks_of header_bits chunks_start float_code ahead part bytes_of bytes_at read_bits read_bytes ◌>>=◌ view flags dimensions chroma float_format integer_format sample_format explicit_cicp explicit_codec_types main_format tmap_cicp gain_map_dimension gain_map_format gain_map_header cclv_more cclv cclv_for hdr_boxes chunk_sizes header trailing_bits stored_sizes stored_spans end_within first_past image_of bits_to_boundary past_trailing_bits test_chunks read_chunks read_mini
 lines = ap (λ (x : Outcome). map (λ (l : Call × Outcome). l.1) (take 10 table) ++ (x ∷ map (λ (l : Call × Outcome). l.1) (drop 11 table))) expand_line

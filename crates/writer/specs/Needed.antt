@@ -91,13 +91,13 @@ pub too_short : (i : MinimizedImage) (s o : List ℕ) {k : ℕ} → Needed i s k
 unfolding written
 too_short i s o n h =
     ap (λ (j : ℕ). refused 16 j o) n.is
-    ∙ sym (ap (λ (t : Bool). cond t (refused 16 (length (box_of i s)) o) (record { refusal = 0; len = length (box_of i s) }, overwrite o 0 (box_of i s)))
+    ∙ sym (ap (λ (t : Bool). cond t (refused 16 (length (box_of i s)) o) (record { refusal = 0; value = length (box_of i s) }, overwrite o 0 (box_of i s)))
     (lt-ltb (length o) (length (box_of i s)) (subst (λ (j : ℕ). length o < j) n.is h)))
 
 -- the header's bytes, the chunks after them, and the box header in front are the box
 pub boxed-all : (i : MinimizedImage) (s o : List ℕ) (len : ℕ) (bytes : List ℕ) {o₁ o₂ o₃ : List ℕ} {at k m r r' : ℕ} → Needed i s k → k ≤ length o
     → length o < 2 ^ 64 → HeaderHeld (header_of i) bytes len → Wrote o 8 m (take (len - 0) bytes) o₁ at → Laid o₁ at (joined (chunks_of i s)) o₂ r
-    → HeaderPut o₂ 0 (k - 8) 0x6D696E69 o₃ r' → ◌≡◌ {A = Written × List ℕ} (record { refusal = 0; len = k }, o₃) (written i s o)
+    → HeaderPut o₂ 0 (k - 8) 0x6D696E69 o₃ r' → ◌≡◌ {A = Written × List ℕ} (record { refusal = 0; value = k }, o₃) (written i s o)
 unfolding written box_of payload_of payload_with boxed
 boxed-all i s o len bytes {o₁} {o₂} {o₃} {at} {k} n room small held w l p =
     let hb = take (len - 0) bytes in
@@ -121,5 +121,5 @@ boxed-all i s o len bytes {o₁} {o₂} {o₃} {at} {k} n room small held w l p 
     let b : hs ++ (hb ++ cs) ≡ box_of i s =
     ap₂ (λ (j : ℕ) (x : List ℕ). box_header 0x6D696E69 j ++ (x ++ cs)) lp e in
     let f0 : nat_lt (length o) (length (box_of i s)) ≡ false = le-ltb (length o) (length (box_of i s)) (omega (arith, n.is)) in
-    ap₂ (λ (j : ℕ) (x : List ℕ). (record { refusal = 0; len = j }, x)) n.is (g ∙ ap (λ (x : List ℕ). overwrite o 0 x) b)
-    ∙ sym (ap (λ (t : Bool). cond t (refused 16 (length (box_of i s)) o) (record { refusal = 0; len = length (box_of i s) }, overwrite o 0 (box_of i s))) f0)
+    ap₂ (λ (j : ℕ) (x : List ℕ). (record { refusal = 0; value = j }, x)) n.is (g ∙ ap (λ (x : List ℕ). overwrite o 0 x) b)
+    ∙ sym (ap (λ (t : Bool). cond t (refused 16 (length (box_of i s)) o) (record { refusal = 0; value = length (box_of i s) }, overwrite o 0 (box_of i s))) f0)

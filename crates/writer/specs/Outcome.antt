@@ -15,10 +15,10 @@ number (TooShort needed) = 16
 pub number_not_zero : (e : WriteError) → number e ≡ 0 → ⊥
 number_not_zero e = search (rules, arith)
 
--- the length that comes with it
-abbrev pub needed_in : WriteError → ℕ
-needed_in (TooShort needed) = needed
-needed_in _ = 0
+-- what comes with it: the length needed, else 0
+abbrev pub value_in : WriteError → ℕ
+value_in (TooShort needed) = needed
+value_in _ = 0
 
 abbrev pub outcome_of : Result ℕ WriteError → Written
-outcome_of = outcome number needed_in
+outcome_of = outcome number value_in

@@ -29,13 +29,13 @@ box_of i s = boxed 0x6D696E69 (payload_of i s)
 
 -- a refusal leaves the output as it was
 abbrev pub refused : ℕ → ℕ → List ℕ → Written × List ℕ
-refused number len o = (record { refusal = number; len = len }, o)
+refused number value o = (record { refusal = number; value = value }, o)
 
 -- 16 with the length needed, or the box
 unfoldable pub written : MinimizedImage → List ℕ → List ℕ → Written × List ℕ
 written i s o =
     let n = length (box_of i s) in
-    cond (nat_lt (length o) n) (refused 16 n o) (record { refusal = 0; len = n }, overwrite o 0 (box_of i s))
+    cond (nat_lt (length o) n) (refused 16 n o) (record { refusal = 0; value = n }, overwrite o 0 (box_of i s))
 
 -- the answer, and what the output holds
 unfoldable pub answer : MinimizedImage → List ℕ → List ℕ → Written × List ℕ

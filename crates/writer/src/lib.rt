@@ -3,7 +3,7 @@
 
 ghost use Rattle.std.specs.Prelude.{◌≡◌, T, is_some, length, unwrap_or};
 ghost use Rattle.mini.specs.Write.{header_of, writable};
-ghost use Rattle.writer.specs.Outcome.{number, number_not_zero, needed_in, outcome_of};
+ghost use Rattle.writer.specs.Outcome.{number, number_not_zero, value_in, outcome_of};
 ghost use Rattle.writer.specs.Needed.{Needed};
 ghost use Rattle.writer.specs.ToBox.{HeaderHeld, HeaderOf, written, answer};
 
@@ -31,7 +31,7 @@ pub enum WriteError {
 impl Refusal for WriteError {
     ghost number = { number };
 
-    ghost needed = { needed_in };
+    ghost value = { value_in };
 
     ghost not_zero = { number_not_zero };
 
@@ -43,7 +43,7 @@ impl Refusal for WriteError {
         }
     }
 
-    fn needed(self) -> usize {
+    fn value(self) -> usize {
         match self {
             WriteError::TooShort { needed } => needed,
             _ => 0,

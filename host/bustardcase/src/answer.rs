@@ -5,11 +5,11 @@ use crate::refusal::{self, Refusal};
 /// The bits below the refusal's number.
 const VALUE_BITS: u32 = 48;
 
-/// The refusal, if there is one, and the value beside it: a length.
+/// The refusal, if there is one, and the value beside it: a length, or the refusal's bit.
 fn split(word: u64) -> (Option<Refusal>, usize) {
     let value = word & ((1 << VALUE_BITS) - 1);
     let number = (word >> VALUE_BITS) as u32;
-    (Refusal::of_number(number), value as usize)
+    (Refusal::new(number, value), value as usize)
 }
 
 /// The answer of a function that writes `N` bytes.
@@ -43,7 +43,9 @@ mod tests {
     fn the_number_stands_above_48_bits() {
         assert_eq!(split(0), (None, 0));
         assert_eq!(split((1 << 48) - 1), (None, (1 << 48) - 1));
-        assert_eq!(split(9 << 48), (Some(Refusal::ChunkPastEnd), 0));
+        let bit = (1 << 33) + 8;
+        let past = Some(Refusal::ChunkPastEnd { bit });
+        assert_eq!(split((9 << 48) + bit), (past, bit as usize));
         let needed = (16 << 48) + (1 << 32) + 5;
         let short = Some(Refusal::ShortOutput);
         assert_eq!(split(needed), (short, (1 << 32) + 5));

@@ -34,9 +34,13 @@ impl<'a> Fields<'a> {
         u32::from_be_bytes(self.bytes())
     }
 
-    /// A position or a length. It counts what lies in memory, so it fits.
+    pub fn u64(&mut self) -> u64 {
+        u64::from_be_bytes(self.bytes())
+    }
+
+    /// A position or a length. It is below 2^48, so it fits.
     pub fn size(&mut self) -> usize {
-        u64::from_be_bytes(self.bytes()) as usize
+        self.u64() as usize
     }
 
     /// SPAN: position, length.

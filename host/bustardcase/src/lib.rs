@@ -13,10 +13,12 @@
 //! // A chunk is a place in the payload, and is handed out as a part of it.
 //! assert_eq!(image.main_data.of(&payload), [0xAA]);
 //!
-//! // With the last byte missing, the answer is a refusal: a number and its meaning.
+//! // With the last byte missing, the answer is a refusal: a number, its meaning, and the bit at which
+//! // reading broke off.
 //! let refusal = bustardcase::read(&payload[..7]).unwrap_err();
 //! assert_eq!(refusal.number(), 9);
 //! assert_eq!(refusal.meaning(), "a chunk, taken in stored order, ends past the payload");
+//! assert_eq!(refusal.bit(), Some(56));
 //! # Ok::<(), bustardcase::Refusal>(())
 //! ```
 //!
@@ -35,6 +37,7 @@ mod answer;
 mod boxes;
 mod check;
 mod chunk;
+mod diagnosis;
 mod file_type;
 mod four_cc;
 mod image;
@@ -47,6 +50,7 @@ mod writing;
 pub use boxes::{BoxHeader, box_header, find_box};
 pub use check::{Check, check};
 pub use chunk::Chunk;
+pub use diagnosis::{Diagnosis, Place, diagnose};
 pub use file_type::{FileType, file_type};
 pub use four_cc::{FourCc, NotFourCharacters};
 pub use image::{

@@ -160,7 +160,7 @@ impl ChunkKind {
         }
     }
 
-    fn of_number(number: u8) -> Self {
+    pub(crate) fn of_number(number: u8) -> Self {
         let kind = Self::ALL.into_iter().find(|kind| kind.number() == number);
         kind.expect("the library numbers the chunks from 1 to 11")
     }
@@ -247,7 +247,8 @@ pub fn outline(payload: &[u8]) -> Result<Outline, Refusal> {
     Ok(outline)
 }
 
-fn header(f: &mut Fields) -> [HeaderPart; 12] {
+/// The parts of the header, by where each ends.
+pub(crate) fn header(f: &mut Fields) -> [HeaderPart; 12] {
     let mut end = 0;
     PartKind::ALL.map(|kind| {
         let start = end;
@@ -256,7 +257,8 @@ fn header(f: &mut Fields) -> [HeaderPart; 12] {
     })
 }
 
-fn chunks(f: &mut Fields) -> [PlacedChunk; 11] {
+/// The eleven chunks, each with its number.
+pub(crate) fn chunks(f: &mut Fields) -> [PlacedChunk; 11] {
     std::array::from_fn(|_| PlacedChunk {
         kind: ChunkKind::of_number(f.byte()),
         place: f.chunk(),

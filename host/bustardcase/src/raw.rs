@@ -1,7 +1,7 @@
 //! The exported functions of the static library, called as they are. A slice goes over as its
 //! pointer and its length. Each returns the refusal's number times 2^48 plus a value: the length of
-//! what was written; under refusal 16 the length needed; under any other 0. docs/ABI.md has the
-//! numbers and layouts.
+//! what was written; under refusal 16 the length needed; under 5 to 9 the bit at which reading broke
+//! off; under any other 0. docs/ABI.md has the numbers and layouts.
 //!
 //! The functions of the crate's root give typed answers; these are for callers who lend their own
 //! output.
@@ -47,6 +47,13 @@ mod c {
         ) -> u64;
 
         pub fn bustardcase_outline(
+            payload: *const u8,
+            payload_len: usize,
+            out: *mut u8,
+            out_len: usize,
+        ) -> u64;
+
+        pub fn bustardcase_diagnose(
             payload: *const u8,
             payload_len: usize,
             out: *mut u8,
@@ -117,6 +124,12 @@ pub fn check(payload: &[u8], out: &mut [u8]) -> u64 {
 pub fn outline(payload: &[u8], out: &mut [u8]) -> u64 {
     // SAFETY: as in `box_header`.
     unsafe { c::bustardcase_outline(payload.as_ptr(), payload.len(), out.as_mut_ptr(), out.len()) }
+}
+
+/// Where reading `payload` broke off, as 321 bytes.
+pub fn diagnose(payload: &[u8], out: &mut [u8]) -> u64 {
+    // SAFETY: as in `box_header`.
+    unsafe { c::bustardcase_diagnose(payload.as_ptr(), payload.len(), out.as_mut_ptr(), out.len()) }
 }
 
 /// The box that the record of `payload` is written as.

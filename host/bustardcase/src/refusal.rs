@@ -3,15 +3,21 @@
 use std::error::Error;
 use std::fmt;
 
-/// Why something could not be done: one of the numbers of docs/ABI.md, under exactly its condition.
+/// Why something could not be done: one of the numbers of docs/ABI.md, under exactly its condition. The
+/// refusals of reading, 5 to 9, come with the bit of the payload at which it broke off, counted from 0, the
+/// high bit of a byte first; [`diagnose`](crate::diagnose) says what stands there.
 ///
 /// ```
 /// use bustardcase::Refusal;
 ///
+/// // The payload ends behind the width: the height would have begun at bit 24.
+/// let refusal = bustardcase::read(&[0, 0, 0]).unwrap_err();
+/// assert_eq!(refusal, Refusal::HeaderCut { bit: 24 });
+/// assert_eq!(refusal.number(), 5);
+/// assert_eq!(refusal.bit(), Some(24));
+///
 /// let refusal = bustardcase::read(&[0x40]).unwrap_err();
-/// assert_eq!(refusal, Refusal::Version);
-/// assert_eq!(refusal.number(), 6);
-/// assert_eq!(refusal.to_string(), "refusal 6: the version is not 0");
+/// assert_eq!(refusal.to_string(), "refusal 6: the version is not 0; at bit 0");
 /// ```
 #[derive(Clone, Copy, Debug, PartialEq, Eq, Hash)]
 #[non_exhaustive]
@@ -25,15 +31,30 @@ pub enum Refusal {
     /// 4: a 'uuid' box ends before its 16-byte extended type does.
     ExtendedTypeCut,
     /// 5: a header field, or a body among the HDR boxes, needs bits past the end.
-    HeaderCut,
+    HeaderCut {
+        /// Where the field begins.
+        bit: u64,
+    },
     /// 6: the version is not 0.
-    Version,
+    Version {
+        /// Where the version begins: 0.
+        bit: u64,
+    },
     /// 7: the two-bit float depth code is 3.
-    FloatDepth,
+    FloatDepth {
+        /// Where the code begins.
+        bit: u64,
+    },
     /// 8: the bits up to the byte boundary after the header aren't all zero.
-    TrailingBits,
+    TrailingBits {
+        /// The first of them.
+        bit: u64,
+    },
     /// 9: a chunk, taken in stored order, ends past the payload.
-    ChunkPastEnd,
+    ChunkPastEnd {
+        /// Where the chunk would begin: its first byte times 8.
+        bit: u64,
+    },
     /// 10: a present chunk's position plus length exceeds the lent source. No function of this crate
     /// gives it: each writes only what it has just read.
     ChunkPastSource,
@@ -58,7 +79,7 @@ pub enum Refusal {
 
 pub const SHORT_OUTPUT: Refusal = Refusal::ShortOutput;
 
-/// Each refusal with its number and its condition.
+/// Every refusal at bit 0, with its number and its condition.
 const KNOWN: [(u32, Refusal, &str); 17] = [
     (
         1,
@@ -82,19 +103,23 @@ const KNOWN: [(u32, Refusal, &str); 17] = [
     ),
     (
         5,
-        Refusal::HeaderCut,
+        Refusal::HeaderCut { bit: 0 },
         "a header field, or a body among the HDR boxes, needs bits past the end",
     ),
-    (6, Refusal::Version, "the version is not 0"),
-    (7, Refusal::FloatDepth, "the two-bit float depth code is 3"),
+    (6, Refusal::Version { bit: 0 }, "the version is not 0"),
+    (
+        7,
+        Refusal::FloatDepth { bit: 0 },
+        "the two-bit float depth code is 3",
+    ),
     (
         8,
-        Refusal::TrailingBits,
+        Refusal::TrailingBits { bit: 0 },
         "the bits up to the byte boundary after the header aren't all zero",
     ),
     (
         9,
-        Refusal::ChunkPastEnd,
+        Refusal::ChunkPastEnd { bit: 0 },
         "a chunk, taken in stored order, ends past the payload",
     ),
     (
@@ -137,12 +162,12 @@ const KNOWN: [(u32, Refusal, &str); 17] = [
 ];
 
 impl Refusal {
-    /// The refusal of a number; 0 is none.
-    pub fn of_number(number: u32) -> Option<Refusal> {
+    /// The refusal of a number, with the bit that comes with it where it is one of reading's; 0 is none.
+    pub fn new(number: u32, bit: u64) -> Option<Refusal> {
         let known = KNOWN.iter().find(|(n, _, _)| *n == number);
         match (number, known) {
             (0, _) => None,
-            (_, Some((_, refusal, _))) => Some(*refusal),
+            (_, Some((_, refusal, _))) => Some(refusal.at(bit)),
             (_, None) => Some(Refusal::Unknown(number)),
         }
     }
@@ -163,16 +188,44 @@ impl Refusal {
         })
     }
 
+    /// The bit of the payload at which reading broke off, of a refusal of reading.
+    pub fn bit(mut self) -> Option<u64> {
+        self.bit_mut().copied()
+    }
+
+    /// The same refusal at another bit, of a refusal of reading.
+    fn at(mut self, bit: u64) -> Refusal {
+        if let Some(place) = self.bit_mut() {
+            *place = bit;
+        }
+        self
+    }
+
+    fn bit_mut(&mut self) -> Option<&mut u64> {
+        match self {
+            Refusal::HeaderCut { bit }
+            | Refusal::Version { bit }
+            | Refusal::FloatDepth { bit }
+            | Refusal::TrailingBits { bit }
+            | Refusal::ChunkPastEnd { bit } => Some(bit),
+            _ => None,
+        }
+    }
+
     /// The number and the condition of a known refusal.
     fn entry(self) -> Option<(u32, &'static str)> {
-        let entry = KNOWN.iter().find(|(_, refusal, _)| *refusal == self);
+        let entry = KNOWN.iter().find(|(_, known, _)| *known == self.at(0));
         entry.map(|(number, _, words)| (*number, *words))
     }
 }
 
 impl fmt::Display for Refusal {
     fn fmt(&self, f: &mut fmt::Formatter) -> fmt::Result {
-        write!(f, "refusal {}: {}", self.number(), self.meaning())
+        write!(f, "refusal {}: {}", self.number(), self.meaning())?;
+        match self.bit() {
+            Some(bit) => write!(f, "; at bit {bit}"),
+            None => Ok(()),
+        }
     }
 }
 
@@ -184,18 +237,31 @@ mod tests {
 
     #[test]
     fn numbers_and_refusals_agree() {
-        assert_eq!(Refusal::of_number(0), None);
+        assert_eq!(Refusal::new(0, 0), None);
         for number in (1..=16).chain([28]) {
-            let refusal = Refusal::of_number(number).expect("not 0");
+            let refusal = Refusal::new(number, 504).expect("not 0");
             assert_eq!(refusal.number(), number);
             assert!(!matches!(refusal, Refusal::Unknown(_)));
         }
         for number in [17, 18, 27, 29, 65_535] {
-            let refusal = Refusal::of_number(number).expect("not 0");
+            let refusal = Refusal::new(number, 0).expect("not 0");
             assert_eq!(refusal, Refusal::Unknown(number));
             assert_eq!(refusal.number(), number);
         }
         assert_eq!(Refusal::NotAFileType.number(), 28);
-        assert_eq!(Refusal::ChunkPastEnd.number(), 9);
+        assert_eq!(Refusal::ChunkPastEnd { bit: 1 << 33 }.number(), 9);
+    }
+
+    #[test]
+    fn the_refusals_of_reading_have_a_bit() {
+        for number in (1..=17).chain([28]) {
+            let refusal = Refusal::new(number, 1 << 33).expect("not 0");
+            let bit = (5..=9).contains(&number).then_some(1 << 33);
+            assert_eq!(refusal.bit(), bit, "refusal {number}");
+            assert_eq!(
+                refusal.to_string().ends_with("; at bit 8589934592"),
+                bit.is_some()
+            );
+        }
     }
 }

@@ -16,6 +16,16 @@ pub fn bar(total: usize, at: usize, len: usize, mark: char) -> String {
     (0..CELLS).map(drawn).collect()
 }
 
+/// What stands under a bar to point at a place: an arrow, and the words beside it.
+pub fn arrow(total: usize, at: usize, words: &str) -> String {
+    let first = cell(total, at).min(CELLS - 1);
+    let after = format!("{:first$}^ {words}", "");
+    match after.len() <= CELLS {
+        true => after,
+        false => format!("{:>1$}", format!("{words} ^"), first + 1),
+    }
+}
+
 /// The boundary between cells that lies nearest to a position. 128 bits hold every product.
 fn cell(total: usize, at: usize) -> usize {
     let total = total.max(1) as u128;
@@ -48,6 +58,18 @@ mod tests {
         assert_eq!(marked(28, 3, 2), (3, 5));
         assert_eq!(marked(7, 6, 1), (24, 28));
         assert_eq!(marked(280, 20, 30), (2, 5));
+    }
+
+    #[test]
+    fn an_arrow_points_at_the_first_cell() {
+        assert_eq!(arrow(28, 3, "here"), "   ^ here");
+        assert_eq!(arrow(28, 22, "here"), format!("{:22}^ here", ""));
+        assert_eq!(arrow(28, 23, "here"), format!("{:18}here ^", ""));
+        for at in 0..=280 {
+            let arrow = arrow(280, at, "refused here");
+            assert!(arrow.len() <= CELLS);
+            assert_eq!(arrow.find('^'), bar(280, at, 0, '#').find('.'));
+        }
     }
 
     #[test]

@@ -1,20 +1,25 @@
 //! `explain`: how a payload is put together.
 
-use crate::drawing::{CELLS, bar, ruler};
+use crate::drawing::CELLS;
 use crate::failure::Failure;
 use crate::flags::{Flag, flags};
 use crate::input::Input;
 use crate::output;
-use crate::text::{count, grouped, wrapped};
-use bustardcase::{Chunk, HeaderPart, MinimizedImage, Outline, PartKind, PlacedChunk};
+use crate::refused::told;
+use crate::rows::{PARTS_HEADING, chunk_row, chunks_heading, drawn_row, part_row};
+use crate::text::{count, grouped, paragraph};
+use bustardcase::{Chunk, HeaderPart, MinimizedImage, Outline, PartKind};
 use std::ffi::OsStr;
 
 pub fn run(file: &OsStr) -> Result<(), Failure> {
     let input = Input::open(file)?;
     let payload = input.payload();
+    if let Some(broken) = input.broken() {
+        output::print(&told(payload, &broken))?;
+    }
     let picture = Picture {
         payload,
-        start: input.mini().map(|mini| mini.payload_start),
+        start: input.start_in_file(),
         image: input.taken(bustardcase::read(payload))?,
         outline: input.taken(bustardcase::outline(payload))?,
         shortest: input.taken(bustardcase::rewrite(payload))?,
@@ -32,10 +37,14 @@ struct Picture<'a> {
     shortest: Vec<u8>,
 }
 
-/// A paragraph, broken to 80 columns.
-fn paragraph(text: &str) -> String {
-    let words: Vec<&str> = text.split(' ').collect();
-    wrapped(&words, 0) + "\n"
+/// For a file, where the payload begins in it.
+pub fn start_in_words(start: Option<usize>) -> String {
+    let words = |start| {
+        paragraph(&format!(
+            "In the file it begins at byte {start}; positions here count from the payload's first byte."
+        ))
+    };
+    start.map(words).unwrap_or_default()
 }
 
 impl Picture<'_> {
@@ -63,12 +72,7 @@ impl Picture<'_> {
             grouped(chunks),
             grouped(ignored)
         ));
-        if let Some(start) = self.start {
-            out += &paragraph(&format!(
-                "In the file it begins at byte {}; positions here count from the payload's first byte.",
-                grouped(start)
-            ));
-        }
+        out += &start_in_words(self.start);
         out
     }
 
@@ -78,41 +82,9 @@ impl Picture<'_> {
             "THE HEADER: {} bits, the high bit of a byte first\n\n",
             grouped(bits)
         );
-        out += "   from   bits  part                  what is stored\n";
+        out += PARTS_HEADING;
         for part in self.outline.header {
-            let from = match part.bits() {
-                0 => "-".to_string(),
-                _ => part.start.to_string(),
-            };
-            let line = format!(
-                "  {from:>5}  {:>5}  {:<20}  {}",
-                part.bits(),
-                part.kind,
-                self.stored_bits(part)
-            );
-            out += line.trim_end();
-            out.push('\n');
-        }
-        out
-    }
-
-    /// The bits of a part, with a space where a new byte begins; of a long one those of its first bytes.
-    fn stored_bits(&self, part: HeaderPart) -> String {
-        const MOST: usize = 32;
-        let mut out = String::new();
-        for at in part.start..part.end {
-            if at.is_multiple_of(8) && at > part.start {
-                if at - part.start > MOST - 8 {
-                    return out + " ..";
-                }
-                out.push(' ');
-            }
-            let byte = self.payload.get(at / 8).copied().unwrap_or(0);
-            out.push(if byte >> (7 - at % 8) & 1 == 1 {
-                '1'
-            } else {
-                '0'
-            });
+            out += &part_row(self.payload, part);
         }
         out
     }
@@ -142,59 +114,34 @@ impl Picture<'_> {
 
     fn by_size(&self) -> String {
         let mut out = String::from("THE CHUNKS in the order in which their sizes are given\n\n");
-        out += &self.heading();
+        let total = self.payload.len();
+        out += &chunks_heading(total);
         for chunk in self.outline.by_size {
-            out += &self.row(chunk);
+            out += &chunk_row(total, chunk);
         }
         out
     }
 
     fn as_stored(&self) -> String {
         let mut out = String::from("THE CHUNKS in the order in which they lie\n\n");
-        out += &self.heading();
+        let total = self.payload.len();
+        out += &chunks_heading(total);
         let header = Chunk {
             at: 0,
             len: self.outline.header_len(),
         };
-        out += &self.drawn("", "(header)", header, '=');
+        out += &drawn_row(total, "", "(header)", header, '=');
         for chunk in self.outline.as_stored {
-            out += &self.row(chunk);
+            out += &chunk_row(total, chunk);
         }
         let ignored = Chunk {
-            at: self.payload.len() - self.outline.ignored,
+            at: total - self.outline.ignored,
             len: self.outline.ignored,
         };
         if ignored.len > 0 {
-            out += &self.drawn("", "(ignored)", ignored, '~');
+            out += &drawn_row(total, "", "(ignored)", ignored, '~');
         }
         out + "\n" + &paragraph(&self.legend())
-    }
-
-    fn heading(&self) -> String {
-        let ruler = ruler(self.payload.len());
-        format!(
-            "   #  {:<22} {:>9} {:>10} |{ruler}|\n",
-            "chunk", "position", "length"
-        )
-    }
-
-    fn row(&self, chunk: PlacedChunk) -> String {
-        let number = chunk.kind.number().to_string();
-        match chunk.place {
-            Some(place) => self.drawn(&number, chunk.kind.name(), place, '#'),
-            None => format!(
-                "  {number:>2}  {:<22} {:>9} {:>10} |{:CELLS$}|\n",
-                chunk.kind, "-", "absent", ""
-            ),
-        }
-    }
-
-    fn drawn(&self, number: &str, name: &str, place: Chunk, mark: char) -> String {
-        let bar = bar(self.payload.len(), place.at, place.len, mark);
-        format!(
-            "  {number:>2}  {name:<22} {:>9} {:>10} |{bar}|\n",
-            place.at, place.len
-        )
     }
 
     fn legend(&self) -> String {

@@ -1,5 +1,6 @@
 //! Why a command failed: one line, and the status with which the tool ends.
 
+use crate::broken::Broken;
 use bustardcase::Refusal;
 use std::fmt;
 use std::io;
@@ -19,6 +20,8 @@ pub enum Failure {
         name: String,
         what: &'static str,
         refusal: Refusal,
+        /// Where reading the payload broke off, if it did.
+        broken: Option<Box<Broken>>,
     },
 }
 
@@ -47,7 +50,14 @@ impl fmt::Display for Failure {
                 name,
                 what,
                 refusal,
-            } => write!(f, "{name}: {what}{refusal}"),
+                broken,
+            } => {
+                write!(f, "{name}: {what}{refusal}")?;
+                match broken {
+                    Some(broken) => write!(f, ": {broken}"),
+                    None => Ok(()),
+                }
+            }
         }
     }
 }

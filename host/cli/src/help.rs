@@ -21,8 +21,14 @@ FILE and IN are a file with an 'ftyp' and a 'mini' box, or the bare payload of a
 is the standard output.
 
 A picture that cannot be read or written gets one line on the standard error:
-the number of the refusal and its meaning. docs/ABI.md lists them. OUT is then
-as it was before.
+the number of the refusal and its meaning, and for a payload that cannot be read
+the bit at which reading broke off, the part of the header or the chunk there,
+and the byte in the payload and in the file. docs/ABI.md lists the refusals. OUT
+is then as it was before.
+
+A file that is cut inside its 'mini' box is refused with 3, before its payload
+is read, and no bit is told. The bytes after the box's header, given alone, are
+read as a payload.
 
 exit status:  0  done; check says yes
               1  the picture is refused; check says no
@@ -45,7 +51,10 @@ FILE   a file with an 'ftyp' and a 'mini' box, or a bare payload; '-' is the
 --json prints one JSON object with the same names: numbers as numbers, flags as
 true and false, what is absent as null, four-character codes as strings, the
 bodies of HDR boxes in hexadecimal, chunks as objects of position and length. A
-refused picture gives an object with the one name 'refusal'.
+refused picture gives an object with the one name 'refusal': its 'number' and
+'meaning'; where reading broke off, the 'bit', the 'byte' of the payload and the
+'file_byte', null for a bare payload, and the 'part', of the header or a chunk;
+for a chunk its 'length' and how many bytes of it are 'missing'.
 
 exit status:  0 read, 1 refused, 2 wrong usage or a file that cannot be read
 ";
@@ -60,6 +69,11 @@ Shows how the payload is put together, for people who learn the format:
 - the chunks in the order in which their sizes are given, and again in the order
   in which they lie, drawn to scale: the two orders are not the same;
 - how many bytes after the last chunk are ignored.
+
+Of a payload that is refused it shows the parts of the header that were read,
+and marks the bit at which reading broke off. Where that is in no part of the
+header, it shows the chunks as they lie, and marks the one that ends past the
+payload; of those after it nothing is there.
 
 FILE   a file with an 'ftyp' and a 'mini' box, or a bare payload; '-' is the
        standard input
@@ -82,7 +96,8 @@ FILE   a file with an 'ftyp' and a 'mini' box, or a bare payload; '-' is the
 
 --json prints one JSON object: 'passes' and the five conditions, as true and
 false; 'shown_width' and 'shown_height'; 'width', 'height' and 'orientation' as
-stored. A refused picture gives an object with the one name 'refusal'.
+stored. A refused picture gives an object with the one name 'refusal', as 'show'
+does.
 
 exit status:  0 yes, 1 no or refused, 2 wrong usage or a file that cannot be
               read

@@ -1,6 +1,7 @@
 //! A file given to read: a bare payload, or a file with a 'mini' box.
 
 use crate::args::shown;
+use crate::broken::Broken;
 use crate::failure::Failure;
 use bustardcase::{BoxHeader, FileType, FourCc, Refusal, box_header, file_type, find_box};
 use std::ffi::OsStr;
@@ -50,9 +51,9 @@ impl Input {
         }
     }
 
-    /// Where the payload begins.
-    pub fn payload_start(&self) -> usize {
-        self.mini().map_or(0, |mini| mini.payload_start)
+    /// Where the payload begins; nothing for a bare payload.
+    pub fn start_in_file(&self) -> Option<usize> {
+        self.mini().map(|mini| mini.payload_start)
     }
 
     pub fn mini(&self) -> Option<&BoxHeader> {
@@ -63,9 +64,22 @@ impl Input {
         self.file.as_ref()?.file_type.as_ref()
     }
 
-    /// What a library's function says of the payload.
+    /// What a library's function says of the payload. Where reading it broke off, the failure says so.
     pub fn taken<T>(&self, answer: Result<T, Refusal>) -> Result<T, Failure> {
-        answer.map_err(|refusal| refused(&self.name, "", refusal))
+        answer.map_err(|refusal| {
+            let broken = refusal.bit().and_then(|_| self.broken());
+            Failure::Refused {
+                name: self.name.clone(),
+                what: "",
+                refusal,
+                broken: broken.map(Box::new),
+            }
+        })
+    }
+
+    /// Where reading the payload broke off; nothing where it is accepted.
+    pub fn broken(&self) -> Option<Broken> {
+        Broken::of(self.payload(), self.start_in_file())
     }
 }
 
@@ -100,5 +114,6 @@ fn refused(name: &str, what: &'static str, refusal: Refusal) -> Failure {
         name: name.to_string(),
         what,
         refusal,
+        broken: None,
     }
 }

@@ -14,11 +14,15 @@ pub fn text(group: &Group) -> String {
 
 /// A refused picture says so on the standard output as well.
 pub fn told<T>(answer: Result<T, Failure>) -> Result<T, Failure> {
-    if let Err(Failure::Refused { refusal, .. }) = &answer {
-        let words = vec![
+    if let Err(Failure::Refused {
+        refusal, broken, ..
+    }) = &answer
+    {
+        let mut words = vec![
             ("number", Value::Number(refusal.number().into())),
             ("meaning", Value::Word(refusal.meaning())),
         ];
+        words.extend(broken.iter().flat_map(|broken| broken.named()));
         output::print(&text(&vec![("refusal", Value::Group(words))]))?;
     }
     answer

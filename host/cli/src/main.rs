@@ -3,6 +3,7 @@
 #![forbid(unsafe_code)]
 
 mod args;
+mod broken;
 mod check;
 mod drawing;
 mod explain;
@@ -13,6 +14,8 @@ mod input;
 mod json;
 mod output;
 mod record;
+mod refused;
+mod rows;
 mod show;
 mod text;
 mod tree;

@@ -24,7 +24,10 @@ fn fields(file: &OsStr) -> Result<Group, Failure> {
             "file_type",
             Value::maybe(input.file_type(), record::of_file_type),
         ),
-        ("payload_position", Value::size(input.payload_start())),
+        (
+            "payload_position",
+            Value::size(input.start_in_file().unwrap_or(0)),
+        ),
         ("payload_length", Value::size(input.payload().len())),
     ];
     fields.extend(record::of_image(&image, &check));

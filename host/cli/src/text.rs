@@ -35,6 +35,12 @@ pub fn wrapped<T: AsRef<str>>(words: &[T], indent: usize) -> String {
     lines.join(&format!("\n{:indent$}", ""))
 }
 
+/// A paragraph, broken to 80 columns.
+pub fn paragraph(text: &str) -> String {
+    let words: Vec<&str> = text.split(' ').collect();
+    wrapped(&words, 0) + "\n"
+}
+
 /// How many of a thing, in words: `1 byte`, `2 bytes`.
 pub fn count(number: usize, thing: &str) -> String {
     let s = if number == 1 { "" } else { "s" };

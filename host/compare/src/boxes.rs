@@ -94,7 +94,7 @@ impl Run {
 impl Outcomes {
     fn count(&mut self, answer: &Answer) {
         match answer {
-            Answer::Refused(number) => self.refused[*number as usize] += 1,
+            Answer::Refused { number, .. } => self.refused[*number as usize] += 1,
             Answer::Done(bytes) if bytes[4] == 1 => self.extended += 1,
             Answer::Done(_) => self.plain += 1,
         }

@@ -137,6 +137,13 @@ mod tests {
         first.split_once("; ").expect("a place").1.to_string()
     }
 
+    fn nine() -> Answer {
+        Answer::Refused {
+            number: 9,
+            bit: 504,
+        }
+    }
+
     fn done() -> Answer {
         Answer::Done(vec![1, 2, 3])
     }
@@ -158,7 +165,7 @@ mod tests {
             assert_eq!(called(&done(), out_len, put), Ok(()));
         }
         assert_eq!(called(&done(), 2, |_| (16 << 48) + 3), Ok(()));
-        assert_eq!(called(&Answer::Refused(9), 2, |_| 9 << 48), Ok(()));
+        assert_eq!(called(&nine(), 2, |_| (9 << 48) + 504), Ok(()));
     }
 
     #[test]
@@ -175,9 +182,9 @@ mod tests {
         let last = |out: &mut [u8]| {
             let len = out.len() as isize;
             alter(out, len + GUARD as isize - 1);
-            9 << 48
+            (9 << 48) + 504
         };
-        let seen = place(called(&Answer::Refused(9), 0, last));
+        let seen = place(called(&nine(), 0, last));
         assert_eq!(seen, "byte 63 behind the output is changed");
     }
 
@@ -201,6 +208,7 @@ mod tests {
         assert_eq!(seen, "the outputs differ first at byte 4 (field)");
         let seen = place(called(&done(), 5, |out| put(out) + 1));
         assert_eq!(seen, "the outputs are equal");
-        assert!(called(&Answer::Refused(9), 0, |_| 9 << 32).is_err());
+        assert!(called(&nine(), 0, |_| (9 << 32) + 504).is_err());
+        assert!(called(&nine(), 0, |_| (9 << 48) + 503).is_err());
     }
 }

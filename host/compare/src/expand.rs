@@ -122,7 +122,7 @@ impl Run {
         }
         let exact = match &answer {
             Answer::Done(bytes) => bytes.len(),
-            Answer::Refused(_) => 64,
+            Answer::Refused { .. } => 64,
         };
         self.numbers[answer.number() as usize] += 1;
         // Shifted by one after every four cases, since they come in fours.

@@ -64,7 +64,7 @@ impl Run {
     fn compare_one(&mut self, buf: &[u8], box_type: u32) -> Result<(), String> {
         let answer = walks::answer(buf, box_type)?;
         match &answer {
-            Answer::Refused(number) => self.refused[*number as usize] += 1,
+            Answer::Refused { number, .. } => self.refused[*number as usize] += 1,
             Answer::Done(layout) => self.found[(layout[21..29] != [0; 8]) as usize] += 1,
         }
         let other = OUTPUTS[((self.cases + self.cases / 4) % 4) as usize];

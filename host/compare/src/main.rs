@@ -5,6 +5,7 @@
 mod boxes;
 mod check;
 mod desk_check;
+mod diagnose;
 mod expand;
 mod features;
 mod file_type;
@@ -52,6 +53,7 @@ const JOBS: &[Job] = &[
     job("expand", expand::compare),
     job("read", read::compare),
     job("outline", outline::compare),
+    job("diagnose", diagnose::compare),
     job("typed", typed::compare),
     job("boxes", boxes::compare),
     job("find_box", find_box::compare),

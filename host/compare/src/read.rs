@@ -98,12 +98,12 @@ impl Run {
     /// Counts what the Rust says, which must agree with what the payload's maker knows.
     fn count(&mut self, case: Case, reading: &Reading) -> Result<(), String> {
         match reading {
-            Reading::Refused(place) if case.sound.is_some() => Err(format!(
+            Reading::Refused(refused) if case.sound.is_some() => Err(format!(
                 "a sound payload is refused at {:?}",
-                PLACES[*place]
+                PLACES[refused.place]
             )),
-            Reading::Refused(place) => {
-                self.refused[*place] += 1;
+            Reading::Refused(refused) => {
+                self.refused[refused.place] += 1;
                 Ok(())
             }
             Reading::Accepted(accepted) => {

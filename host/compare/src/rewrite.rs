@@ -7,7 +7,6 @@ use bustardcase::raw;
 use oracle::answer::Answer;
 use oracle::payloads::{self, Case};
 use oracle::reading::{self, Reading};
-use oracle::refusal::PLACES;
 
 /// How many structured headers; each gives four payloads.
 const STRUCTURED: u64 = 300_000;
@@ -71,7 +70,7 @@ impl Run {
         let answer = answer(payload)?;
         let exact = match &answer {
             Answer::Done(bytes) => bytes.len(),
-            Answer::Refused(_) => 64,
+            Answer::Refused { .. } => 64,
         };
         self.refused += (answer.number() != 0) as u64;
         self.shorter += (answer.number() == 0 && exact < 8 + payload.len()) as u64;
@@ -90,7 +89,7 @@ impl Run {
 /// What the Rust gives: the reader's refusal, or the box.
 fn answer(payload: &[u8]) -> Result<Answer, String> {
     match reading::read(payload)? {
-        Reading::Refused(place) => Ok(Answer::Refused(PLACES[place].number)),
+        Reading::Refused(refused) => Ok(refused.answer()),
         Reading::Accepted(accepted) => match accepted.image.to_box() {
             Ok(bytes) => Ok(Answer::Done(bytes)),
             Err(e) => Err(format!("the Rust reads it, and does not write it: {e}")),

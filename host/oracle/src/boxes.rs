@@ -11,7 +11,7 @@ pub const HEADER_LEN: usize = 45;
 pub fn box_header(buf: &[u8], start: usize) -> Result<Answer, String> {
     match parse_box_header(buf, start) {
         Ok(header) => Ok(Answer::Done(layout(&header))),
-        Err(error) => Ok(Answer::Refused(refusal::of_box_header(&error)?)),
+        Err(error) => Ok(Answer::refused(refusal::of_box_header(&error)?)),
     }
 }
 

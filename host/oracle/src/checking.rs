@@ -5,7 +5,6 @@ use crate::answer::Answer;
 use crate::payloads::{payload_of, plain_gain_map};
 use crate::plan::{Depth, Hdr, NO_BODIES, Plan};
 use crate::reading::Reading;
-use crate::refusal::PLACES;
 use upstream::mini::MinimizedImage;
 
 /// How many flags there are, and the length of the check's layout.
@@ -18,7 +17,7 @@ pub type Flags = [bool; FLAGS];
 /// The answer in the layout of the exported function.
 pub fn answer(reading: &Reading) -> Answer {
     match reading {
-        Reading::Refused(place) => Answer::Refused(PLACES[*place].number),
+        Reading::Refused(refused) => refused.answer(),
         Reading::Accepted(accepted) => Answer::Done(layout(&accepted.image)),
     }
 }

@@ -5,7 +5,6 @@ use crate::payloads;
 use crate::plan::Plan;
 use crate::random::Random;
 use crate::reading::Reading;
-use crate::refusal::PLACES;
 use upstream::error::HeifError;
 use upstream::ftyp::FileType;
 use upstream::mini::MinimizedImage;
@@ -39,7 +38,7 @@ impl OriginalType {
 /// What expanding answers: the reader's refusal, or what it answers for the record.
 pub fn answer(reading: &Reading, original: &OriginalType) -> Result<Answer, String> {
     match reading {
-        Reading::Refused(place) => Ok(Answer::Refused(PLACES[*place].number)),
+        Reading::Refused(refused) => Ok(refused.answer()),
         Reading::Accepted(accepted) => of_record(&accepted.image, original),
     }
 }
@@ -64,13 +63,13 @@ pub fn of_record(image: &MinimizedImage, original: &OriginalType) -> Result<Answ
         Err(error) => {
             let number = number(&error);
             match number {
-                Some(number) => Ok(Answer::Refused(number)),
-                None if inferred => Ok(Answer::Refused(14)),
+                Some(number) => Ok(Answer::refused(number)),
+                None if inferred => Ok(Answer::refused(14)),
                 None => Err(format!("unknown error of equivalent_file: {error:?}")),
             }
         }
-        Ok(_) if inferred => Ok(Answer::Refused(14)),
-        Ok(_) if !allowed => Ok(Answer::Refused(15)),
+        Ok(_) if inferred => Ok(Answer::refused(14)),
+        Ok(_) if !allowed => Ok(Answer::refused(15)),
         Ok(file) => Ok(Answer::Done(file)),
     }
 }

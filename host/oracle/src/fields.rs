@@ -45,13 +45,25 @@ pub fn of_outline(byte: usize) -> String {
     for part in 0..12 {
         fields.add(&format!("end of part {part} of the header"), 8);
     }
-    for order in ["by size", "as stored"] {
-        for place in 1..=11 {
-            fields.add(&format!("number of chunk {place} {order}"), 1);
-            fields.chunk(&format!("chunk {place} {order}"));
-        }
-    }
+    fields.entries("by size");
+    fields.entries("as stored");
     fields.add("bytes ignored", 8);
+    fields.at(byte)
+}
+
+/// The fields of a diagnosis's layout.
+pub fn of_diagnosis(byte: usize) -> String {
+    let mut fields = Fields::default();
+    fields.add("refusal", 1);
+    fields.add("bit", 8);
+    fields.add("part", 1);
+    for part in 0..12 {
+        fields.add(&format!("end of part {part} of the header"), 8);
+    }
+    fields.add("chunk", 1);
+    fields.add("length", 8);
+    fields.add("missing", 8);
+    fields.entries("as stored");
     fields.at(byte)
 }
 
@@ -114,6 +126,13 @@ impl Fields {
     fn chunk(&mut self, name: &str) {
         self.add(&format!("{name} present"), 1);
         self.span(name);
+    }
+
+    fn entries(&mut self, order: &str) {
+        for place in 1..=11 {
+            self.add(&format!("number of chunk {place} {order}"), 1);
+            self.chunk(&format!("chunk {place} {order}"));
+        }
     }
 
     fn hdr(&mut self, of: &str) {

@@ -40,7 +40,7 @@ pub fn file_type(body: &[u8]) -> Result<Result<FileType, NoFileType>, String> {
 /// The answer in the layout of the exported function.
 pub fn answer(body: &[u8], read: &Result<FileType, NoFileType>) -> Result<Answer, String> {
     let Ok(file_type) = read else {
-        return Ok(Answer::Refused(REFUSAL));
+        return Ok(Answer::refused(REFUSAL));
     };
     let brands = file_type.compatible_brands.concat();
     if body.get(8..) != Some(&brands[..]) {

@@ -4,6 +4,7 @@
 pub mod answer;
 pub mod box_cases;
 pub mod boxes;
+pub mod breaking;
 pub mod checking;
 pub mod expanding;
 pub mod fields;

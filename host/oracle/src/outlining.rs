@@ -4,7 +4,6 @@
 use crate::answer::Answer;
 use crate::plan::{Alpha, Bodies, Chroma, Depth, GainMap, Hdr, PARTS, Plan, Wide};
 use crate::reading::{self, Accepted, Reading, hdr_bodies, put_chunk};
-use crate::refusal::PLACES;
 use upstream::mini::{MiniChroma, MiniGainMap, MiniHdrBoxes, MinimizedImage, SampleFormat};
 
 /// The length of an outline's layout.
@@ -29,7 +28,7 @@ pub struct Outline {
 
 pub fn answer(payload: &[u8]) -> Result<Answer, String> {
     match reading::read(payload)? {
-        Reading::Refused(place) => Ok(Answer::Refused(PLACES[place].number)),
+        Reading::Refused(refused) => Ok(refused.answer()),
         Reading::Accepted(accepted) => Ok(Answer::Done(outline(payload, &accepted)?.layout())),
     }
 }

@@ -1,7 +1,10 @@
 //! Reading a payload, and the layout of the record that it reads to.
 
 use crate::answer::Answer;
-use crate::refusal::{self, PLACES};
+use crate::breaking::{self, Break};
+use crate::refusal::{self, PLACES, Place, What};
+use std::fmt::Display;
+use upstream::error::HeifError;
 use upstream::mini::{MiniChroma, MiniGainMap, MiniHdrBoxes, MinimizedImage, SampleFormat};
 
 /// The length of a record's layout.
@@ -17,8 +20,29 @@ const BODIES: [usize; 6] = [4, 24, 37, 8, 20, 4];
 /// What `MinimizedImage::parse` makes of a payload.
 pub enum Reading {
     Accepted(Box<Accepted>),
-    /// Refused at a place, an index into `PLACES`.
-    Refused(usize),
+    Refused(Refused),
+}
+
+/// A refusal: what the Rust's message names, and the bit, which comes from a reading bit by bit.
+#[derive(Clone, Copy)]
+pub struct Refused {
+    /// An index into `PLACES`.
+    pub place: usize,
+    pub bit: u64,
+}
+
+impl Refused {
+    pub fn number(&self) -> u64 {
+        PLACES[self.place].number
+    }
+
+    /// The answer of every exported function that reads the payload.
+    pub fn answer(&self) -> Answer {
+        Answer::Refused {
+            number: self.number(),
+            bit: self.bit,
+        }
+    }
 }
 
 pub struct Accepted {
@@ -29,14 +53,42 @@ pub struct Accepted {
 
 /// What the supplied Rust answers for a payload.
 pub fn read(payload: &[u8]) -> Result<Reading, String> {
+    let broken = breaking::walk(payload).broken;
     match MinimizedImage::parse(payload) {
         Ok(image) => {
+            if broken.is_some() {
+                return Err(disagreement("accepted", broken));
+            }
             let header_len = header_len(payload, &image)?;
             let accepted = Accepted { image, header_len };
             Ok(Reading::Accepted(Box::new(accepted)))
         }
-        Err(error) => Ok(Reading::Refused(refusal::of_parse(&error)?)),
+        Err(error) => {
+            let place = refusal::of_parse(&error)?;
+            match broken.filter(|broken| says_so(&error, PLACES[place], broken)) {
+                Some(Break { bit, .. }) => Ok(Reading::Refused(Refused { place, bit })),
+                None => Err(disagreement(error, broken)),
+            }
+        }
     }
+}
+
+/// Whether a message has nothing that the reading bit by bit does not say: the number; the part of the header or
+/// the chunk, and the chunk's length; the bit, if it names one.
+fn says_so(error: &HeifError, place: Place, broken: &Break) -> bool {
+    let what = match (place.what, broken.place) {
+        (What::Part(parts), breaking::Place::Part(part)) => parts.contains(&part),
+        (What::Chunk(chunk), breaking::Place::Chunk { number, length, .. }) => {
+            chunk == number && refusal::named_length(error) == Some(length)
+        }
+        _ => false,
+    };
+    let named = refusal::named_bit(error);
+    place.number == broken.number && what && named.is_none_or(|bit| bit == broken.bit)
+}
+
+fn disagreement(rust: impl Display, broken: Option<Break>) -> String {
+    format!("the Rust: {rust}; the reading bit by bit: {broken:?}")
 }
 
 impl Reading {
@@ -44,7 +96,7 @@ impl Reading {
     pub fn answer(&self, payload: &[u8]) -> Result<Answer, String> {
         match self {
             Reading::Accepted(accepted) => Ok(Answer::Done(accepted.layout(payload)?)),
-            Reading::Refused(place) => Ok(Answer::Refused(PLACES[*place].number)),
+            Reading::Refused(refused) => Ok(refused.answer()),
         }
     }
 }

@@ -1,5 +1,5 @@
-//! A short list of payloads, to be recorded: those of document 01, one feature at a time, and one
-//! with every chunk, cut everywhere.
+//! A short list of payloads, to be recorded: those of document 01, one feature at a time, and two that are cut
+//! everywhere, one with every chunk and one with fields of several bytes.
 
 use crate::payloads::{cclv_len, payload_of, plain_gain_map, with_every_chunk};
 use crate::plan::{Alpha, Chroma, Depth, GainMap, Hdr, NO_BODIES, Plan};
@@ -134,9 +134,25 @@ pub fn payloads() -> Vec<Vec<u8>> {
         all.push(payload_of(&with_hdr(hdr(Some(gain_map)))));
     }
     bodies(&mut all);
-    let whole = payload_of(&with_every_chunk());
-    all.extend((0..=whole.len()).map(|len| whole[..len].to_vec()));
+    for plan in [with_every_chunk(), with_long_fields()] {
+        let whole = payload_of(&plan);
+        all.extend((0..=whole.len()).map(|len| whole[..len].to_vec()));
+    }
     all
+}
+
+/// Both codec types, and for the picture and the tone map 'clli' and a 'cclv' whose flags byte brings four bytes.
+fn with_long_fields() -> Plan {
+    let mut main = hdr(None);
+    main.bodies[0] = Some(body(0, 0));
+    main.bodies[2] = Some(body(2, 0x08));
+    let mut gain_map = plain_gain_map();
+    gain_map.tmap_bodies = main.bodies.clone();
+    main.gain_map = Some(gain_map);
+    Plan {
+        types: Some([*b"av01", *b"av1C"]),
+        ..with_hdr(main)
+    }
 }
 
 fn with_hdr(hdr: Hdr) -> Plan {

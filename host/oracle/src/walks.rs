@@ -14,8 +14,8 @@ const TYPES: [[u8; 4]; 5] = [*b"ftyp", *b"mini", *b"free", *b"uuid", *b"mdat"];
 pub fn answer(buf: &[u8], box_type: u32) -> Result<Answer, String> {
     match find_box(buf, &box_type.to_be_bytes()) {
         Ok(Some((header, _))) => Ok(Answer::Done(layout(&header))),
-        Ok(None) => Ok(Answer::Refused(1)),
-        Err(error) => Ok(Answer::Refused(refusal::of_box_header(&error)?)),
+        Ok(None) => Ok(Answer::refused(1)),
+        Err(error) => Ok(Answer::refused(refusal::of_box_header(&error)?)),
     }
 }
 

@@ -7,4 +7,4 @@ use Rattle.exports.proofs.bustardcase_rewrite.Goals as goal
 
 pub returns : goal.returns
 unfolding rewritten written
-returns c = answers _ _ c.args.out.now c.rewrite.ensures.answer (omega (arith, c.of_written.ensures))
+returns c = answers _ _ _ c.args.out.now c.rewrite.ensures.answer (omega (arith, c.of_written.ensures))

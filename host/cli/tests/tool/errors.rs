@@ -164,54 +164,272 @@ fn no_room_for_the_file() {
     assert_eq!(folder.files(), before);
 }
 
+/// A payload that is refused, and where.
+struct Refused {
+    payload: &'static [u8],
+    number: u64,
+    bit: u64,
+    byte: u64,
+    part: &'static str,
+    /// The words before the byte, and those after it.
+    words: [&'static str; 2],
+    /// Of a chunk, how many bytes it has, and how many of these are missing.
+    chunk: &'static [u64],
+}
+
+/// What the refusals 5 to 9 mean.
+const MEANINGS: [&str; 5] = [
+    "a header field, or a body among the HDR boxes, needs bits past the end",
+    "the version is not 0",
+    "the two-bit float depth code is 3",
+    "the bits up to the byte boundary after the header aren't all zero",
+    "a chunk, taken in stored order, ends past the payload",
+];
+
+impl Refused {
+    const fn field(
+        payload: &'static [u8],
+        [number, bit, byte]: [u64; 3],
+        part: &'static str,
+        words: [&'static str; 2],
+    ) -> Self {
+        Refused {
+            payload,
+            number,
+            bit,
+            byte,
+            part,
+            words,
+            chunk: &[],
+        }
+    }
+
+    fn meaning(&self) -> &'static str {
+        MEANINGS[self.number as usize - 5]
+    }
+
+    /// What is said of it; in a file the byte is counted from the file's start, too.
+    fn message(&self, start: Option<u64>) -> String {
+        let Refused {
+            number, bit, byte, ..
+        } = self;
+        let [before, after] = self.words;
+        let at = start.map(|start| format!(" (byte {} of the file)", start + byte));
+        let meaning = self.meaning();
+        let at = at.unwrap_or_default();
+        format!(
+            "refusal {number}: {meaning}; at bit {bit}: {before} byte {byte} of the payload{at}{after}"
+        )
+    }
+}
+
+const REFUSED: [Refused; 13] = [
+    Refused::field(
+        b"",
+        [5, 0, 0],
+        "flags",
+        ["in the part 'flags', bit 0 of", ", where the payload ends"],
+    ),
+    Refused::field(
+        b"\0\0\0\0\0",
+        [5, 37, 4],
+        "chunk sizes",
+        [
+            "in the part 'chunk sizes', bit 5 of",
+            ", 3 bits before the payload ends",
+        ],
+    ),
+    // The first codec type.
+    Refused::field(
+        b"\x20\0\0\0av0",
+        [5, 32, 4],
+        "explicit codec types",
+        [
+            "in the part 'explicit codec types', bit 0 of",
+            ", 24 bits before the payload ends",
+        ],
+    ),
+    // The body of 'clli'.
+    Refused::field(
+        b"\x01\0\0\0\x40\0\0",
+        [5, 39, 4],
+        "HDR boxes",
+        [
+            "in the part 'HDR boxes', bit 7 of",
+            ", 17 bits before the payload ends",
+        ],
+    ),
+    // What follows the flags byte of 'cclv'.
+    Refused::field(
+        b"\x01\0\0\0\x10\x08\0",
+        [5, 47, 5],
+        "HDR boxes",
+        [
+            "in the part 'HDR boxes', bit 7 of",
+            ", 9 bits before the payload ends",
+        ],
+    ),
+    Refused::field(
+        b"\x01\0\0\0\xc0\0\0",
+        [5, 56, 7],
+        "tone map HDR boxes",
+        [
+            "in the part 'tone map HDR boxes', bit 0 of",
+            ", where the payload ends",
+        ],
+    ),
+    Refused::field(
+        b"\x40",
+        [6, 0, 0],
+        "flags",
+        [
+            "in the part 'flags', bit 0 of",
+            ", from where the bits are 01000000",
+        ],
+    ),
+    // The code lies in two bytes.
+    Refused::field(
+        b"\x10\0\0\x01\x80",
+        [7, 31, 3],
+        "sample format",
+        [
+            "in the part 'sample format', bit 7 of",
+            ", from where the bits are 1 10000000",
+        ],
+    ),
+    Refused::field(
+        b"\x01\0\0\0\xc0\x07",
+        [7, 46, 5],
+        "gain map",
+        [
+            "in the part 'gain map', bit 6 of",
+            ", from where the bits are 11",
+        ],
+    ),
+    Refused::field(
+        b"\0\0\0\0\0\0\x01\xAA\xBB",
+        [8, 52, 6],
+        "trailing bits",
+        [
+            "in the part 'trailing bits', bit 4 of",
+            ", from where the bits are 0001",
+        ],
+    ),
+    Refused {
+        payload: b"\0\0\0\0\0\0\0",
+        number: 9,
+        bit: 56,
+        byte: 7,
+        part: "main data",
+        words: ["main data would begin at", " and has 1 byte, 1 is missing"],
+        chunk: &[1, 1],
+    },
+    Refused {
+        payload: b"\x04\0\0\0\0\0\x20\0\x30\xA1",
+        number: 9,
+        bit: 72,
+        byte: 9,
+        part: "alpha data",
+        words: [
+            "alpha data would begin at",
+            " and has 3 bytes, 2 are missing",
+        ],
+        chunk: &[3, 2],
+    },
+    // A chunk before it is there: main configuration of two bytes.
+    Refused {
+        payload: b"\0\0\0\0\x10\x75\x50\xC1\xC2\xAA",
+        number: 9,
+        bit: 72,
+        byte: 9,
+        part: "main data",
+        words: [
+            "main data would begin at",
+            " and has 1,878 bytes, 1,877 are missing",
+        ],
+        chunk: &[1_878, 1_877],
+    },
+];
+
 #[test]
 fn refused_payloads() {
     let folder = Folder::new("errors-refused");
     folder.put("out", b"before");
-    let refused: [(&str, &[u8], &str); 6] = [
-        (
-            "empty",
-            b"",
-            "refusal 5: a header field, or a body among the HDR boxes, needs bits past the end",
-        ),
-        ("version", b"\x40", "refusal 6: the version is not 0"),
-        (
-            "depth",
-            b"\x10\0\0\x01\x80",
-            "refusal 7: the two-bit float depth code is 3",
-        ),
-        (
-            "bits",
-            b"\0\0\0\0\0\0\x01\xAA",
-            "refusal 8: the bits up to the byte boundary after the header aren't all zero",
-        ),
-        (
-            "chunk",
-            &SMALLEST[..7],
-            "refusal 9: a chunk, taken in stored order, ends past the payload",
-        ),
-        (
-            "file",
-            &file(FTYP, &SMALLEST[..7]),
-            "refusal 9: a chunk, taken in stored order, ends past the payload",
-        ),
+    for refused in REFUSED {
+        all_refuse(&folder, refused.payload, &refused.message(None));
+    }
+}
+
+#[test]
+fn refused_payloads_of_files() {
+    let folder = Folder::new("errors-refused-files");
+    folder.put("out", b"before");
+    for refused in REFUSED {
+        let (whole, start) = in_file(&refused);
+        all_refuse(&folder, &whole, &refused.message(Some(start)));
+    }
+}
+
+/// A file that is cut inside its 'mini' box: the box is refused, and the payload is not read. A box of size 0
+/// reaches to the end of the file, so that the payload is read, and the place is told.
+#[test]
+fn files_that_are_cut() {
+    let folder = Folder::new("errors-cut-files");
+    folder.put("out", b"before");
+    let no_box = "no 'mini' box is found: refusal 3: a box's size is 2 to 7, its largesize below 16, or \
+                  either beyond the bytes that remain";
+    let head = |size: u32| [&boxed(b"ftyp", FTYP)[..], &size.to_be_bytes(), b"mini"].concat();
+    let start = head(0).len() as u64;
+    for refused in REFUSED {
+        let size = 8 + refused.payload.len() as u32;
+        let cut = [&head(size + 1)[..], refused.payload].concat();
+        all_refuse(&folder, &cut, no_box);
+        let open = [&head(0)[..], refused.payload].concat();
+        all_refuse(&folder, &open, &refused.message(Some(start)));
+    }
+}
+
+/// A file with the payload, and where in the file it begins.
+fn in_file(refused: &Refused) -> (Vec<u8>, u64) {
+    let whole = file(FTYP, refused.payload);
+    let start = whole.len() - refused.payload.len();
+    (whole, start as u64)
+}
+
+/// Every command refuses the input, by its name and from a pipe, with this message, and changes nothing.
+fn all_refuse(folder: &Folder, bytes: &[u8], message: &str) {
+    folder.put("in", bytes);
+    let line = format!("in: {message}");
+    let cases: &[(&[&str], &str)] = &[
+        (&["show", "in"], &line),
+        (&["check", "in"], &line),
+        (&["shrink", "in", "out"], &line),
+        (&["shrink", "in", "in"], &line),
+        (&["expand", "in", "out"], &line),
+        (&["expand", "in", "-"], &line),
     ];
-    for (name, bytes, _) in refused {
-        folder.put(name, bytes);
+    each(folder, 1, cases);
+    // `explain` prints what was read, too.
+    let ran = folder.run(&["explain", "in"]);
+    assert_eq!(ran.err, format!("bustardcase: {line}\n"));
+    assert_eq!(ran.status, 1);
+    let commands: [&[&str]; 5] = [
+        &["show", "-"],
+        &["explain", "-"],
+        &["check", "-"],
+        &["shrink", "-", "out"],
+        &["expand", "-", "out"],
+    ];
+    let before = folder.files();
+    for words in commands {
+        let piped = folder.run_with(words, bytes);
+        let line = format!("bustardcase: standard input: {message}\n");
+        assert_eq!((piped.status, piped.err), (1, line), "{words:?}");
+        if words[0] == "explain" {
+            assert_eq!(piped.out, ran.out);
+        }
     }
-    for (name, _, line) in refused {
-        let line = format!("{name}: {line}");
-        let cases: &[(&[&str], &str)] = &[
-            (&["show", name], &line),
-            (&["explain", name], &line),
-            (&["check", name], &line),
-            (&["shrink", name, "out"], &line),
-            (&["shrink", name, name], &line),
-            (&["expand", name, "out"], &line),
-            (&["expand", name, "-"], &line),
-        ];
-        each(&folder, 1, cases);
-    }
+    assert_eq!(folder.files(), before);
 }
 
 #[test]
@@ -307,19 +525,54 @@ fn files_that_are_refused() {
     }
 }
 
-/// Under `--json` the refusal comes on the standard output too.
+/// Under `--json` the refusal comes on the standard output too, with the place as numbers and a name.
 #[test]
 fn refusals_as_json() {
     let folder = Folder::new("errors-json");
-    folder.put("in", &SMALLEST[..7]);
-    for command in ["show", "check"] {
-        let ran = folder.run(&[command, "--json", "in"]);
-        let meaning = "a chunk, taken in stored order, ends past the payload";
-        assert_eq!(ran.status, 1);
-        assert_eq!(ran.err, format!("bustardcase: in: refusal 9: {meaning}\n"));
-        let json = Json::parse(&String::from_utf8(ran.out).expect("text"));
-        assert_eq!(json.names(), ["refusal"]);
-        assert_eq!(json.at("refusal.number"), &Json::Number(9));
-        assert_eq!(json.at("refusal.meaning"), &Json::Text(meaning.to_string()));
+    for refused in REFUSED {
+        let (whole, start) = in_file(&refused);
+        for (input, start) in [(refused.payload, None), (&whole[..], Some(start))] {
+            folder.put("in", input);
+            for command in ["show", "check"] {
+                let ran = folder.run(&[command, "--json", "in"]);
+                let line = format!("bustardcase: in: {}\n", refused.message(start));
+                assert_eq!((ran.status, ran.err), (1, line));
+                let json = Json::parse(&String::from_utf8(ran.out).expect("text"));
+                told_as_json(&refused, start, &json);
+            }
+        }
     }
+}
+
+/// Names and values, in this order and no others.
+fn told_as_json(refused: &Refused, start: Option<u64>, json: &Json) {
+    let file_byte = start.map_or(Json::Null, |start| Json::Number(start + refused.byte));
+    let mut expected = vec![
+        ("number", Json::Number(refused.number)),
+        ("meaning", Json::Text(refused.meaning().to_string())),
+        ("bit", Json::Number(refused.bit)),
+        ("byte", Json::Number(refused.byte)),
+        ("file_byte", file_byte),
+        ("part", Json::Text(refused.part.to_string())),
+    ];
+    for (name, number) in ["length", "missing"].into_iter().zip(refused.chunk) {
+        expected.push((name, Json::Number(*number)));
+    }
+    assert_eq!(json.names(), ["refusal"]);
+    let names: Vec<&str> = expected.iter().map(|(name, _)| *name).collect();
+    assert_eq!(json.at("refusal").names(), names);
+    for (name, value) in expected {
+        assert_eq!(json.at(&format!("refusal.{name}")), &value, "{name}");
+    }
+}
+
+/// A refusal that is not one of reading has no place.
+#[test]
+fn other_refusals_as_json() {
+    let folder = Folder::new("errors-json-other");
+    folder.put("in", &boxed(b"ftyp", FTYP));
+    let ran = folder.run(&["show", "--json", "in"]);
+    assert_eq!(ran.status, 1);
+    let json = Json::parse(&String::from_utf8(ran.out).expect("text"));
+    assert_eq!(json.at("refusal").names(), ["number", "meaning"]);
 }

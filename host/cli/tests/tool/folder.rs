@@ -2,10 +2,11 @@
 
 use std::collections::BTreeMap;
 use std::fs;
-use std::io::Write;
+use std::io::{ErrorKind, Write};
 use std::os::unix::fs::PermissionsExt;
 use std::path::PathBuf;
-use std::process::{Command, Output, Stdio};
+use std::process::{Child, Command, Output, Stdio};
+use std::thread;
 
 pub const TOOL: &str = env!("CARGO_BIN_EXE_bustardcase");
 
@@ -72,10 +73,21 @@ impl Drop for Folder {
 
 pub fn run(mut command: Command, input: &[u8]) -> Ran {
     let pipes = command.stdin(Stdio::piped()).stdout(Stdio::piped());
-    let mut child = pipes.stderr(Stdio::piped()).spawn().expect("it starts");
+    let mut child = started(pipes.stderr(Stdio::piped()));
     // One that reads nothing may be gone by now.
     let _ = child.stdin.take().expect("a pipe").write_all(input);
     Ran::of(child.wait_with_output().expect("it ends"))
+}
+
+/// Starts it. A program that a test has just written is busy while a child that another test is starting still
+/// has it open for writing: such a child closes it at once.
+fn started(command: &mut Command) -> Child {
+    loop {
+        match command.spawn() {
+            Err(e) if e.kind() == ErrorKind::ExecutableFileBusy => thread::yield_now(),
+            child => return child.expect("it starts"),
+        }
+    }
 }
 
 impl Ran {

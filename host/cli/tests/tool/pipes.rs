@@ -18,7 +18,8 @@ fn a_dash_is_the_standard_input() {
     assert!(piped.starts_with("no: "));
     let refused = folder.run_with(&["check", "-"], b"");
     let line = "bustardcase: standard input: refusal 5: a header field, or a body among the HDR \
-                boxes, needs bits past the end\n";
+                boxes, needs bits past the end; at bit 0: in the part 'flags', bit 0 of byte 0 of the \
+                payload, where the payload ends\n";
     assert_eq!((refused.status, refused.err.as_str()), (1, line));
 }
 

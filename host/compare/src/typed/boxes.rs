@@ -77,7 +77,7 @@ fn one_walk(seen: &mut Outcomes, buf: &[u8], box_type: u32) -> Result<(), String
         // The walk came to the end of the buffer, where there is no header.
         Ok(None) => {
             seen.refused[1] += 1;
-            same_refusal("the walk", ours, 1)
+            same_refusal("the walk", ours, 1, 0)
         }
         Err(error) => refused(seen, ours, &error),
     }
@@ -90,7 +90,7 @@ fn refused(
 ) -> Result<(), String> {
     let number = refusal::of_box_header(error)?;
     seen.refused[number as usize] += 1;
-    same_refusal("the header", ours, number)
+    same_refusal("the header", ours, number, 0)
 }
 
 fn same_header(

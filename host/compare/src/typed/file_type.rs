@@ -57,7 +57,7 @@ fn one(seen: &mut Outcomes, body: &[u8]) -> Result<(), String> {
                 NoFileType::Uneven => 1,
                 NoFileType::Long => 2,
             }] += 1;
-            same_refusal("the file type", ours, 28)
+            same_refusal("the file type", ours, 28, 0)
         }
     }
 }

@@ -6,7 +6,7 @@ use oracle::outlining::{self, Placed};
 use oracle::reading::Accepted;
 
 /// The parts of the header and the chunks by number, in the order of docs/ABI.md.
-const PARTS: [PartKind; 12] = [
+pub const PARTS: [PartKind; 12] = [
     PartKind::Flags,
     PartKind::Dimensions,
     PartKind::ChromaCentring,
@@ -20,7 +20,7 @@ const PARTS: [PartKind; 12] = [
     PartKind::ChunkSizes,
     PartKind::TrailingBits,
 ];
-const CHUNKS: [ChunkKind; 11] = [
+pub const CHUNKS: [ChunkKind; 11] = [
     ChunkKind::Icc,
     ChunkKind::TmapIcc,
     ChunkKind::GainMapMetadata,

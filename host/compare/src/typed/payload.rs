@@ -1,6 +1,6 @@
 //! What is read and told of a payload, and what is written of it.
 
-use super::{outline, record, same, same_refusal};
+use super::{diagnosis, outline, record, same, same_refusal};
 use crate::read::shown;
 use crate::report::Report;
 use bustardcase::{Check, FileType, FourCc};
@@ -9,8 +9,7 @@ use oracle::checking::{self, FLAGS};
 use oracle::expanding::{self, OriginalType};
 use oracle::payloads::{self, Case};
 use oracle::random::Random;
-use oracle::reading::{self, Accepted, Reading};
-use oracle::refusal::PLACES;
+use oracle::reading::{self, Accepted, Reading, Refused};
 
 /// How many structured headers, each giving four payloads; how many random tails after 24 bits; how many
 /// headers with explicit codec types.
@@ -76,17 +75,18 @@ impl Run {
     fn one(&mut self, payload: &[u8], original: &OriginalType) -> Result<(), String> {
         let reading = reading::read(payload)?;
         match &reading {
-            Reading::Refused(place) => all_refuse(payload, PLACES[*place].number)?,
+            Reading::Refused(refused) => all_refuse(payload, refused)?,
             Reading::Accepted(accepted) => {
                 self.read += 1;
                 self.told(payload, accepted)?;
             }
         }
+        diagnosis::compare(payload)?;
         let expected = expanding::answer(&reading, original)?;
         self.expanded[expected.number() as usize] += 1;
         let ours = bustardcase::expand(payload, &typed(original));
         match expected {
-            Answer::Refused(number) => same_refusal("expand", ours, number),
+            Answer::Refused { number, bit } => same_refusal("expand", ours, number, bit),
             Answer::Done(file) => same("the file", &ours, &Ok(file)),
         }
     }
@@ -168,11 +168,12 @@ impl Run {
 }
 
 /// Every function that reads a payload must refuse it alike.
-fn all_refuse(payload: &[u8], number: u64) -> Result<(), String> {
-    same_refusal("read", bustardcase::read(payload), number)?;
-    same_refusal("check", bustardcase::check(payload), number)?;
-    same_refusal("outline", bustardcase::outline(payload), number)?;
-    same_refusal("rewrite", bustardcase::rewrite(payload), number)
+fn all_refuse(payload: &[u8], refused: &Refused) -> Result<(), String> {
+    let (number, bit) = (refused.number(), refused.bit);
+    same_refusal("read", bustardcase::read(payload), number, bit)?;
+    same_refusal("check", bustardcase::check(payload), number, bit)?;
+    same_refusal("outline", bustardcase::outline(payload), number, bit)?;
+    same_refusal("rewrite", bustardcase::rewrite(payload), number, bit)
 }
 
 fn typed(original: &OriginalType) -> FileType {

@@ -38,10 +38,12 @@ fn record_boxes() -> Result<String, String> {
 
 fn record_read() -> Result<String, String> {
     let mut text = heading("read", "MinimizedImage::parse");
-    text += "# payload refusal record\n";
+    text += "# The bit comes of a reading bit by bit.\n# payload refusal bit record\n";
     for payload in samples::payloads() {
         let answer = reading::read(&payload)?.answer(&payload)?;
-        text += &format!("{} {}\n", hex(&payload), said(&answer));
+        let written = hex(answer.written(usize::MAX));
+        let (number, bit) = (answer.number(), answer.bit());
+        text += &format!("{} {number} {bit} {written}\n", hex(&payload));
     }
     Ok(text)
 }

@@ -1,9 +1,9 @@
-use Rattle.bits.specs.Run.{run_view, run_then, run_exactly, run_seq, run_minus1}
+use Rattle.bits.specs.Run.{state, run_view, run_then, run_exactly, run_seq, run_minus1}
 use Rattle.mini.specs.Syntax.{flags}
 use Rattle.header_reader.proofs.fields.read_flags.Goals as goal
 
 pub returns : goal.returns
-unfolding flags
+unfolding flags state
 returns c =
     run_view _ _ _ _ _ _
     (run_then _ _ (run_exactly 2 0 6 tt c.read-version.ensures.run c.test-b.ensures)

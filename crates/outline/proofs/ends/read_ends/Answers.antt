@@ -1,12 +1,12 @@
 use Rattle.std.proofs.Common.{ap, sym, ◌∙◌}
-use Rattle.outline.specs.Ends.{noted, header_parts, places, part_read, ends_of}
+use Rattle.outline.specs.Ends.{noted, header_parts, states, part_read, states_of}
 use Rattle.outline.proofs.ends.read_ends.Goals as goal
 
 pub returns : goal.returns
-unfolding header_parts places
+unfolding header_parts states
 returns c =
     let s = c.args.payload.now in
-    sym (ends_of s
+    sym (states_of s
     (ap (header_parts s) (sym c.new.ensures) ∙ part_read _ _ c.read_flags.ensures
     ∙ ap (noted _) (part_read _ _ c.read_dimensions.ensures
     ∙ ap (noted _) (part_read _ _ c.read_chroma.ensures
