@@ -30,18 +30,18 @@ use Rattle.expander.specs.Outcome.{refusal_of}
 use Rattle.expander.specs.Placed.{data_placed, lengths_are}
 use Rattle.boxes.specs.Walk.{Box, All, none, next, Plain, box_if, joined, header_of, headers, walk, payload, walked, box_found, body_found, all_append, all_if, all_plain, joined-append, joined_if}
 
-abbrev box : ℕ → List ℕ → Box
+abbrev pub box : ℕ → List ℕ → Box
 box type body = record { type = type; body = body }
 
 unless : (t : Bool) (bs : List ℕ) → cond (not t) bs [] ≡ cond t [] bs
 unless true bs = refl
 unless false bs = refl
 
-abbrev has_references : ItemSet → Bool
+abbrev pub has_references : ItemSet → Bool
 has_references t = not (eqb (length (references t)) 0)
 
 -- ---- the boxes of 'meta': those before 'iloc', and 'iloc'
-abbrev before_iloc : MinimizedImage → List ℕ → List Box
+abbrev pub before_iloc : MinimizedImage → List ℕ → List Box
 before_iloc i s =
     let t = item_set i in
     (box 0x68646C72 hdlr_body ∷ box 0x7069746D pitm_body ∷ box 0x69696E66 (iinf_body t) ∷ [])
@@ -49,13 +49,13 @@ before_iloc i s =
     ++ (box 0x69707270 (ipco i s ++ ipma i s) ∷ [])
     ++ box_if t.tone_map (box 0x6772706C altr)
 
-abbrev iloc_box : MinimizedImage → ℕ → Box
+abbrev pub iloc_box : MinimizedImage → ℕ → Box
 iloc_box i base = box ILOC (iloc_body (locations base (data_lengths i)))
 
-abbrev meta_boxes : MinimizedImage → List ℕ → ℕ → List Box
+abbrev pub meta_boxes : MinimizedImage → List ℕ → ℕ → List Box
 meta_boxes i s base = before_iloc i s ++ (iloc_box i base ∷ [])
 
-meta_is : (i : MinimizedImage) (s : List ℕ) (base : ℕ) → meta_body i s base ≡ full_box_header 0 0 ++ joined (meta_boxes i s base)
+pub meta_is : (i : MinimizedImage) (s : List ℕ) (base : ℕ) → meta_body i s base ≡ full_box_header 0 0 ++ joined (meta_boxes i s base)
 unfolding meta_body item_boxes hdlr pitm iinf iref iref_box iprp grpl_box iloc
 meta_is i s base = simp (joined-append, joined_if, unless, append_assoc, append-nil)
 
@@ -104,7 +104,7 @@ module _ (i : MinimizedImage) (s : List ℕ) (major minor : ℕ) (brands : List 
   unfolding meta_in
   meta_found = rw file_is (body_found [] 0 refl (ftyp_box ∷ []) meta_box (mdat_box ∷ []) file_plain (next refl none))
 
-  meta_plain : All Plain (meta_boxes i s base)
+  pub meta_plain : All Plain (meta_boxes i s base)
   meta_plain =
       let n = length_meta_body i s brands x base in
       let l = length-append (full_box_header 0 0) (joined (meta_boxes i s base)) in

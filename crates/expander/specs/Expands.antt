@@ -1,9 +1,10 @@
--- Every record that expands is well placed, can be written and comes with an allowed list of brands (document 01, 'What goes back when it cannot be
--- done', 10 to 15).
+-- When a record expands: no refusal applies, so that it is well placed, can be written and comes with an allowed list of brands (document 01, 'What
+-- goes back when it cannot be done', 10 to 15); and the other way round.
 use Rattle.std.specs.Prelude.{◌≡◌, refl, Bool, true, false, not, cond, List, ℕ, ◌<◌, T, is_some}
 use Rattle.std.proofs.Common.{true≢false, arith, lit<}
 use Rattle.std.proofs.lemmas.Bool.{not-false}
 use Rattle.ftyp.specs.FileType.{allowed}
+use Rattle.mini.specs.RecordHeader.{T_true}
 use Rattle.mini.specs.Same.{well_placed}
 use Rattle.mini.specs.Write.{writable}
 use Rattle.mini.specs.declared.MinimizedImage.{MinimizedImage}
@@ -43,3 +44,15 @@ expands i s brands e =
       typed = holds (is_some i.explicit_codec_types) t.0;
       brands_allowed = not-false (allowed brands) f.0;
     }
+
+pub not_refused : (i : MinimizedImage) (s brands : List ℕ) → Expands i s brands → refusal_of i s brands ≡ 0
+unfolding refusal_of
+not_refused i s brands x =
+    rw (
+      T_true (well_placed i s) x.placed,
+      T_true (writable i) x.can_write,
+      x.no_native_alpha,
+      x.no_uuid,
+      T_true (is_some i.explicit_codec_types) x.typed,
+      x.brands_allowed,
+    )

@@ -1,6 +1,6 @@
--- A record positions aside, its chunks in the source lent with it, and when it is well placed: document 01, 'The record and its order of
--- bits' ('Two records are the same when all fields and chunk bytes agree, positions aside') and refusal 10.
-use Rattle.std.specs.Prelude.{Bool, true, not, ◌&&◌, ◌||◌, List, [], ◌∷◌, ℕ, ◌+◌, leb, length, take, drop, Option, Some, None}
+-- A record positions aside, its chunks in the source lent with it, when two records are the same, and when one is well placed: document 01, 'The
+-- record and its order of bits' ('Two records are the same when all fields and chunk bytes agree, positions aside') and refusal 10.
+use Rattle.std.specs.Prelude.{◌≡◌, Bool, true, not, ◌&&◌, ◌||◌, List, [], ◌∷◌, ℕ, ◌+◌, leb, length, take, drop, Option, Some, None}
 use Rattle.octets.specs.declared.Span.{Span}
 use Rattle.mini.specs.declared.MinimizedImage.{MinimizedImage}
 
@@ -79,6 +79,11 @@ chunks_of i s =
     ∷ chunk_bytes i.exif s
     ∷ chunk_bytes i.xmp s
     ∷ []
+
+-- ---- two records, each with its source, are the same
+pub record Same (i : MinimizedImage) (s : List ℕ) (j : MinimizedImage) (t : List ℕ) : Type 0 where
+  pub fields : unplaced i ≡ unplaced j
+  pub chunks : chunks_of i s ≡ chunks_of j t
 
 -- ---- well placed: refusal 10 does not apply. The chunks of an absent gain map are not present.
 abbrev pub span_in : Span → ℕ → Bool

@@ -51,7 +51,7 @@ unfolding slots picture_slots tone_map_slots main_slots alpha_slots orientation_
 length-slots i s = simp (length-append, length_there)
 
 -- ---- which are used
-used_only : (t : Bool) (box : List ℕ) → is_used (only_if t box) ≡ t
+pub used_only : (t : Bool) (box : List ℕ) → is_used (only_if t box) ≡ t
 used_only true box = refl
 used_only false box = refl
 
@@ -69,7 +69,7 @@ used_there true (x ∷ l) = ap (λ (m : List Bool). is_used x ∷ m) (used_there
 used_there false [] = refl
 used_there false (x ∷ l) = ap (λ (m : List Bool). false ∷ m) (used_there false l)
 
-used_held : (t : Bool) (held : HdrBox) → is_used (hdr_slot (then_some t held)) ≡ t
+pub used_held : (t : Bool) (held : HdrBox) → is_used (hdr_slot (then_some t held)) ≡ t
 used_held true held = refl
 used_held false held = refl
 

@@ -2,7 +2,7 @@
 
 use crate::answer::fixed;
 use crate::layout::Fields;
-use crate::{FourCc, Refusal, raw};
+use crate::{FourCc, Refusal, find_box, raw};
 
 /// A file type: what an 'ftyp' box says.
 #[derive(Clone, Debug, PartialEq, Eq)]
@@ -54,6 +54,30 @@ pub fn file_type(body: &[u8]) -> Result<FileType, Refusal> {
     };
     fields.finish();
     Ok(file_type)
+}
+
+/// The file type of a file that [`expand`](crate::expand) wrote. It may have a few brands more than an
+/// original file type may. Refusals 1 to 4 where the file has no 'ftyp' box, and 28 where that is too short.
+///
+/// ```
+/// use bustardcase::{FileType, expand, expanded_file_type};
+///
+/// let payload = b"\x20\0\0\0av01av1C\0\0\0\xAA";
+/// let file = expand(payload, &FileType::default())?;
+/// let file_type = expanded_file_type(&file)?;
+/// assert_eq!(file_type.compatible_brands, [b"mif3".into(), b"mif1".into()]);
+/// # Ok::<(), bustardcase::Refusal>(())
+/// ```
+pub fn expanded_file_type(file: &[u8]) -> Result<FileType, Refusal> {
+    let body = find_box(file, FourCc(*b"ftyp"))?.payload(file);
+    match &codes(body)[..] {
+        [major_brand, minor_version, brands @ ..] => Ok(FileType {
+            major_brand: *major_brand,
+            minor_version: minor_version.number(),
+            compatible_brands: brands.to_vec(),
+        }),
+        _ => Err(Refusal::NotAFileType),
+    }
 }
 
 fn codes(bytes: &[u8]) -> Vec<FourCc> {

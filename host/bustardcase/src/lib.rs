@@ -3,7 +3,8 @@
 //!
 //! Every answer comes from a static library whose functions are proved to equal short definitions,
 //! for every input. This crate makes typed values of the library's bytes and knows nothing of the
-//! format beside the layouts of docs/ABI.md. It is not proved itself.
+//! format beside the layouts of docs/ABI.md, and, in [`differences`], which fields of a record an
+//! expanded file carries. It is not proved itself.
 //!
 //! ```
 //! // The smallest payload there is: 1 by 1, one byte of main data.
@@ -38,6 +39,7 @@ mod boxes;
 mod check;
 mod chunk;
 mod diagnosis;
+mod differences;
 mod file_type;
 mod four_cc;
 mod image;
@@ -51,7 +53,8 @@ pub use boxes::{BoxHeader, box_header, find_box};
 pub use check::{Check, check};
 pub use chunk::Chunk;
 pub use diagnosis::{Diagnosis, Place, diagnose};
-pub use file_type::{FileType, file_type};
+pub use differences::{Difference, differences};
+pub use file_type::{FileType, expanded_file_type, file_type};
 pub use four_cc::{FourCc, NotFourCharacters};
 pub use image::{
     Cicp, CodecTypes, MiniChroma, MiniGainMap, MiniHdrBoxes, MinimizedImage, SampleFormat,

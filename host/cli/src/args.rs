@@ -2,7 +2,7 @@
 
 use crate::failure::Failure;
 use crate::help;
-use bustardcase::FourCc;
+use bustardcase::{FileType, FourCc};
 use std::ffi::{OsStr, OsString};
 
 pub enum Request {
@@ -28,6 +28,12 @@ pub enum Request {
         output: OsString,
         changes: Changes,
     },
+    Same {
+        a: OsString,
+        b: OsString,
+        changes: Changes,
+        json: bool,
+    },
 }
 
 /// What the arguments say of the original file type.
@@ -38,6 +44,18 @@ pub struct Changes {
     pub brands: Option<Vec<FourCc>>,
 }
 
+impl Changes {
+    /// The original file type of a file whose own is this one, if it has one.
+    pub fn of(&self, own: Option<&FileType>) -> FileType {
+        let own = own.cloned().unwrap_or_default();
+        FileType {
+            major_brand: self.major.unwrap_or(own.major_brand),
+            minor_version: self.minor.unwrap_or(own.minor_version),
+            compatible_brands: self.brands.clone().unwrap_or(own.compatible_brands),
+        }
+    }
+}
+
 struct Command {
     name: &'static str,
     help: &'static str,
@@ -46,7 +64,7 @@ struct Command {
     options: &'static [&'static str],
 }
 
-const COMMANDS: [Command; 5] = [
+const COMMANDS: [Command; 6] = [
     Command {
         name: "show",
         help: help::SHOW,
@@ -76,6 +94,12 @@ const COMMANDS: [Command; 5] = [
         help: help::EXPAND,
         files: &["IN", "OUT"],
         options: &[MAJOR, MINOR, BRANDS],
+    },
+    Command {
+        name: "same",
+        help: help::SAME,
+        files: &["A", "B"],
+        options: &[JSON, MAJOR, MINOR, BRANDS],
     },
 ];
 
@@ -150,6 +174,9 @@ impl Command {
         if let Some(file) = given.files.get(self.files.len()) {
             return Err(self.usage(&format!("'{}' is one file too many", shown(file))));
         }
+        if self.name == "same" && given.files.iter().all(|file| file == "-") {
+            return Err(self.usage("A and B cannot both be the standard input"));
+        }
         self.make(given)
     }
 
@@ -166,10 +193,16 @@ impl Command {
                 input: file(),
                 output: file(),
             },
-            _ => Request::Expand {
+            "expand" => Request::Expand {
                 input: file(),
                 output: file(),
                 changes,
+            },
+            _ => Request::Same {
+                a: file(),
+                b: file(),
+                changes,
+                json,
             },
         })
     }

@@ -5,9 +5,9 @@ use bustardcase::Refusal;
 use std::fmt;
 use std::io;
 
-/// The status for a payload that is refused, and for a check that says no.
+/// The status for a payload that is refused, and for an answer that is no.
 pub const REFUSED: u8 = 1;
-/// The status for wrong usage, and for what cannot be read or written.
+/// The status for wrong usage, for what cannot be read or written, and for a question without an answer.
 const TROUBLE: u8 = 2;
 
 pub enum Failure {
@@ -23,6 +23,8 @@ pub enum Failure {
         /// Where reading the payload broke off, if it did.
         broken: Option<Box<Broken>>,
     },
+    /// Why a question whose no has the status of a refusal has no answer.
+    Unanswered(Box<Failure>),
 }
 
 impl Failure {
@@ -33,9 +35,13 @@ impl Failure {
         }
     }
 
+    pub fn unanswered(self) -> Self {
+        Failure::Unanswered(Box::new(self))
+    }
+
     pub fn status(&self) -> u8 {
         match self {
-            Failure::Usage(_) | Failure::Io { .. } => TROUBLE,
+            Failure::Usage(_) | Failure::Io { .. } | Failure::Unanswered(_) => TROUBLE,
             Failure::Refused { .. } => REFUSED,
         }
     }
@@ -45,6 +51,7 @@ impl fmt::Display for Failure {
     fn fmt(&self, f: &mut fmt::Formatter) -> fmt::Result {
         match self {
             Failure::Usage(message) => f.write_str(message),
+            Failure::Unanswered(failure) => failure.fmt(f),
             Failure::Io { name, error } => write!(f, "{name}: {}", told(error)),
             Failure::Refused {
                 name,

@@ -11,14 +11,15 @@ usage: bustardcase COMMAND ..
   check FILE       the desk check: does the display take the picture as it is?
   shrink IN OUT    writes the shortest form that reads the same
   expand IN OUT    writes the equivalent HEIF file
+  same A B         do two pictures expand to one file? In what do they differ?
 
-  --json           (show, check) prints JSON
+  --json           (show, check, same) prints JSON
   --help           prints this; after a command, what the command does
   --version        prints the version
 
-FILE and IN are a file with an 'ftyp' and a 'mini' box, or the bare payload of a
-'mini' box; '-' is the standard input. A 'mini' box alone is taken too. OUT '-'
-is the standard output.
+FILE, IN, A and B are a file with an 'ftyp' and a 'mini' box, or the bare
+payload of a 'mini' box; '-' is the standard input. A 'mini' box alone is taken
+too. OUT '-' is the standard output.
 
 A picture that cannot be read or written gets one line on the standard error:
 the number of the refusal and its meaning, and for a payload that cannot be read
@@ -30,9 +31,10 @@ A file that is cut inside its 'mini' box is refused with 3, before its payload
 is read, and no bit is told. The bytes after the box's header, given alone, are
 read as a payload.
 
-exit status:  0  done; check says yes
-              1  the picture is refused; check says no
-              2  wrong usage, or a file that cannot be read or written
+exit status:  0  done; check or same says yes
+              1  the picture is refused; check or same says no
+              2  wrong usage, or a file that cannot be read or written; of same,
+                 a refused picture too
 ";
 
 pub const SHOW: &str = "\
@@ -144,4 +146,52 @@ OUT is written beside and renamed: on a failure it is as it was before.
 
 exit status:  0 written, 1 refused, 2 wrong usage or a file that cannot be read
               or written
+";
+
+pub const SAME: &str = "\
+usage: bustardcase same [--json] A B [--major M] [--minor N] [--brands X,Y]
+
+Do two pictures expand to one file? Both are expanded, as 'expand' does it, and
+the files compared byte by byte. Prints yes or no, then the fields in which the
+records differ, under the names of 'show': the value in A, a bar, the value in
+B. Of a chunk it is the length, and for equal lengths the first byte, counted
+from 0, at which they differ. Long forms where short ones would do, and bytes
+after the last chunk, are no part of a record and make no difference.
+
+Some differences are in no expanded file, such as whether colours are given or
+inferred. They are printed last. Whichever file is kept, they are lost when A
+and B are deleted.
+
+A, B   each a file with an 'ftyp' and a 'mini' box, or a bare payload; '-', for
+       one of them, is the standard input
+
+Each is expanded under its own file type. For a bare payload that has major
+brand mif3, minor version 0 and one compatible brand, mif3. Each option takes
+the place of one part of it, in both; all three give both one type:
+
+--major M      the major brand, four characters
+--minor N      the minor version, a number; 0x begins hexadecimal digits
+--brands X,Y   the compatible brands, of four characters each, at most 1,024;
+               '' is none
+
+If A and B have different types, those of the expanded files may differ too, and
+are then printed as 'file_type'. The answer is no. Where the files would be
+equal under one type, the last line is:
+
+  under one file type they expand to one file
+
+--json prints one JSON object:
+
+same        true or false
+fields      a list of objects: 'name'; 'a' and 'b', the values as 'show' has
+            them; 'carried', whether the expanded files have the difference; for
+            chunks of equal length 'first_difference'
+file_type   null, or an object: 'a' and 'b', the types of the expanded files;
+            'only_difference', whether the files would be equal under one type
+
+A refused picture gives an object with the one name 'refusal', as 'show' does;
+its 'file' is a or b. A is tried first.
+
+exit status:  0 yes, 1 no; 2 no answer: a picture is refused, wrong usage, or a
+              file that cannot be read
 ";

@@ -16,6 +16,7 @@ mod output;
 mod record;
 mod refused;
 mod rows;
+mod same;
 mod show;
 mod text;
 mod tree;
@@ -54,7 +55,13 @@ fn run(request: Request) -> Result<bool, Failure> {
             input,
             output,
             changes,
-        } => writing::expand(&input, &output, changes)?,
+        } => writing::expand(&input, &output, &changes)?,
+        Request::Same {
+            a,
+            b,
+            changes,
+            json,
+        } => return same::run([&a, &b], &changes, json),
     }
     Ok(true)
 }

@@ -73,7 +73,8 @@ fn put_group(rows: &mut Vec<Row>, prefix: &str, group: &Group, digits: usize) {
     }
 }
 
-fn words(value: &Value, digits: usize) -> Vec<String> {
+/// The words of a value that is no group; the numbers of a chunk have so many digits.
+pub fn words(value: &Value, digits: usize) -> Vec<String> {
     match value {
         Value::Absent => vec!["none".to_string()],
         Value::Flag(flag) => vec![if *flag { "yes" } else { "no" }.to_string()],

@@ -4,7 +4,6 @@ use crate::args::Changes;
 use crate::failure::Failure;
 use crate::input::Input;
 use crate::output;
-use bustardcase::FileType;
 use std::ffi::OsStr;
 
 pub fn shrink(input: &OsStr, output: &OsStr) -> Result<(), Failure> {
@@ -24,14 +23,9 @@ pub fn shrink(input: &OsStr, output: &OsStr) -> Result<(), Failure> {
     output::write(output, &result)
 }
 
-pub fn expand(input: &OsStr, output: &OsStr, changes: Changes) -> Result<(), Failure> {
+pub fn expand(input: &OsStr, output: &OsStr, changes: &Changes) -> Result<(), Failure> {
     let input = Input::open(input)?;
-    let own = input.file_type().cloned().unwrap_or_default();
-    let original = FileType {
-        major_brand: changes.major.unwrap_or(own.major_brand),
-        minor_version: changes.minor.unwrap_or(own.minor_version),
-        compatible_brands: changes.brands.unwrap_or(own.compatible_brands),
-    };
+    let original = changes.of(input.file_type());
     let file = input.taken(bustardcase::expand(input.payload(), &original))?;
     output::write(output, &file)
 }

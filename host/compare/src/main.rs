@@ -15,6 +15,7 @@ mod promises;
 mod read;
 mod report;
 mod rewrite;
+mod same;
 mod typed;
 
 use report::Report;
@@ -52,6 +53,7 @@ const JOBS: &[Job] = &[
     },
     job("expand", expand::compare),
     job("read", read::compare),
+    job("same", same::compare),
     job("outline", outline::compare),
     job("diagnose", diagnose::compare),
     job("typed", typed::compare),

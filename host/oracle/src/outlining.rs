@@ -96,8 +96,8 @@ fn ends(payload: &[u8], accepted: &Accepted) -> Result<[usize; PARTS], String> {
     Err("no plan makes this header".to_string())
 }
 
-/// The plan of a record, in the short forms.
-fn plan(image: &MinimizedImage) -> Plan {
+/// The plan of a record, in the short forms but for a gain map's dimensions.
+pub fn plan(image: &MinimizedImage) -> Plan {
     let one_less = |chunk: &Option<Vec<u8>>| chunk.as_ref().map(|c| c.len() as u32 - 1);
     Plan {
         types: image

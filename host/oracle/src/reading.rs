@@ -149,7 +149,7 @@ const EXIF: usize = 9;
 const XMP: usize = 10;
 
 /// The chunks in stored order. Of an absent gain map there is none.
-fn stored(image: &MinimizedImage) -> [Option<&[u8]>; 11] {
+pub fn stored(image: &MinimizedImage) -> [Option<&[u8]>; 11] {
     let gain_map = image.gain_map.as_ref();
     [
         Some(&image.main_codec_config[..]),

@@ -2,7 +2,7 @@
 
 use crate::folder::{Folder, assert_within_80_columns};
 
-const COMMANDS: [&str; 5] = ["show", "explain", "check", "shrink", "expand"];
+const COMMANDS: [&str; 6] = ["show", "explain", "check", "shrink", "expand", "same"];
 
 #[test]
 fn help_for_all() {

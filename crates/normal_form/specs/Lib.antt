@@ -1,0 +1,4 @@
+pub mod Alike
+pub mod NormalForm
+pub mod ReadProperties
+pub mod ReadRecord
