@@ -32,7 +32,7 @@ hdr_back a b true true q e = inl (sym (and-true a) ∙ e ∙ and-true b)
 
 -- ---- the tone map's colours
 -- only whether there is a profile matters
-pub tone_beside : (c : Option TmapCicp) (x y : Option Span) → is_some x ≡ is_some y → short_tmap_cicp c x ≡ short_tmap_cicp c y
+tone_beside : (c : Option TmapCicp) (x y : Option Span) → is_some x ≡ is_some y → short_tmap_cicp c x ≡ short_tmap_cicp c y
 tone_beside None x y e = refl
 tone_beside (Some c) x y e = ap (λ (b : Bool). cond (not b && is_srgb c) None (Some c)) e
 

@@ -23,7 +23,7 @@ either_way P true x y p q = p
 either_way P false x y p q = q
 
 -- ---- colour
-pub cicp_is : (c d : Cicp) → is_cicp c d ≡ true → c ≡ d
+cicp_is : (c d : Cicp) → is_cicp c d ≡ true → c ≡ d
 cicp_is c d e =
     let f = and_parts _ _ e in
     let g = and_parts _ _ f.1 in
