@@ -4,7 +4,7 @@
 #include "bustardcase.h"
 
 static const uint8_t file[] = "\0\0\0\x14" "ftypmif3\0\0\0\0mif3" "\0\0\0\x18" "mini\x20\0\0\0av01av1C\0\0\0\xAA";
-static uint8_t out[BUSTARDCASE_OUTLINE_LEN];
+static uint8_t out[BUSTARDCASE_OUTLINE_LEN], expanded[484];
 
 static void say(const char *function, uint64_t answer)
 {
@@ -40,7 +40,10 @@ int main(void)
     say("outline", bustardcase_outline(payload, payload_len, out, sizeof out));
     say("diagnose", bustardcase_diagnose(payload, payload_len, out, sizeof out));
     say("rewrite", bustardcase_rewrite(payload, payload_len, out, sizeof out));
-    say("expand", bustardcase_expand(payload, payload_len, mif3, 0, brands, brands_len, out, sizeof out));
+    say("expand", bustardcase_expand(payload, payload_len, mif3, 0, brands, brands_len, expanded, sizeof expanded));
+    say("find_mini", bustardcase_find_mini(expanded, sizeof expanded, mif3, 0, brands, brands_len, out, sizeof out));
+    say("restore", bustardcase_restore(expanded, sizeof expanded, mif3, 0, brands, brands_len, out, sizeof out));
+    say("restore", bustardcase_restore(expanded, sizeof expanded - 1, mif3, 0, brands, brands_len, out, sizeof out));
     say("expand", bustardcase_expand(payload, payload_len, mif3, 0, brands, brands_len, out, 0));
     say("expand", bustardcase_expand(payload, payload_len, mif3, 0, brands, 3, out, sizeof out));
     say("read", bustardcase_read(payload, payload_len - 1, out, sizeof out));

@@ -45,6 +45,7 @@ int main(void)
     SAY(BRANDS, expand(BYTES("\x20\0\0\0av01av1C\0\0\0\xAA"), BYTES("mif")));
     say("SHORT_OUTPUT", BUSTARDCASE_REFUSAL_SHORT_OUTPUT, BUSTARDCASE_CHECK_LEN,
         bustardcase_check(BYTES("\0\0\0\0\0\0\0\xAA"), out, BUSTARDCASE_CHECK_LEN - 1));
+    SAY(NOT_AN_EXPANSION, bustardcase_find_mini(BYTES("\0\0\0\x08""free"), 0x6D696633, 0, BYTES("mif3"), out, sizeof out));
     SAY(NOT_A_FILE_TYPE, bustardcase_file_type(BYTES("mif3\0\0\0"), out, sizeof out));
     return differ;
 }

@@ -8,7 +8,7 @@ static const uint8_t boxes[] = "\0\0\0\x08""free";
 static const uint8_t body[] = "mif3\0\0\0\0mif3";
 enum { PAYLOAD_LEN = sizeof payload - 1, BOXES_LEN = sizeof boxes - 1, BODY_LEN = sizeof body - 1, MIF3 = 0x6D696633 };
 
-static uint8_t out[BUSTARDCASE_OUTLINE_LEN];
+static uint8_t out[BUSTARDCASE_OUTLINE_LEN], file[480];
 static int differ;
 
 static void say(const char *what, uint64_t of_null, uint64_t of_empty)
@@ -42,9 +42,20 @@ static uint64_t expand(const uint8_t *from, size_t len, uint8_t *to, size_t to_l
     return bustardcase_expand(from, len, MIF3, 0, NULL, 0, to, to_len);
 }
 
+static uint64_t find_mini(const uint8_t *from, size_t len, uint8_t *to, size_t to_len)
+{
+    return bustardcase_find_mini(from, len, MIF3, 0, NULL, 0, to, to_len);
+}
+
+static uint64_t restore(const uint8_t *from, size_t len, uint8_t *to, size_t to_len)
+{
+    return bustardcase_restore(from, len, MIF3, 0, NULL, 0, to, to_len);
+}
+
 int main(void)
 {
     uint8_t buffer[1] = {0}, *empty = buffer;
+    expand(payload, PAYLOAD_LEN, file, sizeof file);
     THREE("box_header", box_header, boxes, BOXES_LEN);
     THREE("find_box", find_box, boxes, BOXES_LEN);
     THREE("file_type", bustardcase_file_type, body, BODY_LEN);
@@ -54,7 +65,11 @@ int main(void)
     THREE("diagnose", bustardcase_diagnose, payload, PAYLOAD_LEN);
     THREE("rewrite", bustardcase_rewrite, payload, PAYLOAD_LEN);
     THREE("expand", expand, payload, PAYLOAD_LEN);
+    THREE("find_mini", find_mini, file, sizeof file);
+    THREE("restore", restore, file, sizeof file);
     say("expand, no brands", bustardcase_expand(payload, PAYLOAD_LEN, MIF3, 0, NULL, 0, out, sizeof out),
         bustardcase_expand(payload, PAYLOAD_LEN, MIF3, 0, empty, 0, out, sizeof out));
+    say("find_mini, no brands", bustardcase_find_mini(file, sizeof file, MIF3, 0, NULL, 0, out, sizeof out),
+        bustardcase_find_mini(file, sizeof file, MIF3, 0, empty, 0, out, sizeof out));
     return differ;
 }

@@ -1,8 +1,8 @@
 /* Bustardcase: the low-overhead image format (ISO/IEC 23008-12 Amd 2, Annex O: the MinimizedImageBox, 'mini'), proved.
 
-   Link target/staticlib/libexports.a, and for bustardcase_outline and bustardcase_diagnose also
-   target/staticlib/libexports_outline.a; ./bustardcase makes both, and they need no other library. docs/ABI.md says the same at
-   more length; examples/ has programs.
+   Link target/staticlib/libexports.a; for bustardcase_outline and bustardcase_diagnose also libexports_outline.a, for
+   bustardcase_find_mini and bustardcase_restore also libexports_find.a. ./bustardcase makes all three, and they need no other
+   library. docs/ABI.md says the same at more length; examples/ has programs.
 
    A slice is passed as a pointer and a length. Where the length is 0, the pointer may be null. Outputs must not overlap
    inputs. Nothing is kept after a call, and nothing is allocated; the functions may be called from several threads. */
@@ -49,12 +49,13 @@ enum bustardcase_refusal {
     BUSTARDCASE_REFUSAL_NO_CODEC_TYPES = 14,    /* there are no explicit codec types */
     BUSTARDCASE_REFUSAL_BRANDS = 15,            /* the brands aren't a multiple of 4 bytes, or are over 4,096 bytes */
     BUSTARDCASE_REFUSAL_SHORT_OUTPUT = 16,      /* the output is shorter than the result */
+    BUSTARDCASE_REFUSAL_NOT_AN_EXPANSION = 17,  /* no record with explicit codec types expands to the file under that file type */
     BUSTARDCASE_REFUSAL_NOT_A_FILE_TYPE = 28    /* no original file type: fewer than 8 bytes, or brands as under 15 */
 };
 
-/* What the functions write has a fixed layout, except for rewritten boxes and expanded files. Below, a layout's _LEN is its
-   length, and every other constant is where a field begins; after it stands how many bytes the field has. Numbers are
-   big-endian. A flag is 1 or 0. What is absent has zeros in its place.
+/* What the functions write has a fixed layout, except for boxes and expanded files. Below, a layout's _LEN is its length, and
+   every other constant is where a field begins; after it stands how many bytes the field has. Numbers are big-endian. A flag
+   is 1 or 0. What is absent has zeros in its place.
 
    Three parts occur several times. Their constants count from where the part begins. */
 
@@ -253,6 +254,21 @@ uint64_t bustardcase_rewrite(const uint8_t *payload, size_t payload_len, uint8_t
    highest byte, and `brands` their bytes one after another. Refusals 5, 6, 7, 8, 9, 12, 13, 14, 15, 16. */
 uint64_t bustardcase_expand(const uint8_t *payload, size_t payload_len, uint32_t major, uint32_t minor,
                             const uint8_t *brands, size_t brands_len, uint8_t *out, size_t out_len);
+
+/* The way back, for files whose originals are gone (in libexports_find.a): the record, with explicit codec types, that expands
+   to exactly the bytes of `file` under that original file type, in the layout of bustardcase_read. Its chunks are spans of
+   `file`, an empty one at 0. `major`, `minor` and `brands` are those of bustardcase_expand. Refusals 15, 17, 16.
+
+   Of the records that expand to the file, it is one with a shortest payload. What the file does not carry is absent, zero or
+   false, but a gain map's own size is the main picture's, and its format integers of 8 bits. */
+uint64_t bustardcase_find_mini(const uint8_t *file, size_t file_len, uint32_t major, uint32_t minor,
+                               const uint8_t *brands, size_t brands_len, uint8_t *out, size_t out_len);
+
+/* The box of type `mini` that holds this record in its shortest form, header included, its chunks taken from `file` (in
+   libexports_find.a). The box without its first eight bytes expands to exactly `file` under the same original file type, and no
+   payload that does is shorter. Refusals 15, 17, 16. */
+uint64_t bustardcase_restore(const uint8_t *file, size_t file_len, uint32_t major, uint32_t minor,
+                             const uint8_t *brands, size_t brands_len, uint8_t *out, size_t out_len);
 
 #ifdef __cplusplus
 }

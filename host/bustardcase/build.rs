@@ -8,10 +8,11 @@ use std::path::{Path, PathBuf};
 use std::process::{Command, Stdio, exit};
 use std::time::SystemTime;
 
-/// The libraries, and the crate of each. The outline is one of its own (docs/DECISIONS.md).
-const LIBRARIES: [(&str, &str); 2] = [
+/// The libraries, and the crate of each. The outline, and going back to a mini, are of their own (docs/DECISIONS.md).
+const LIBRARIES: [(&str, &str); 3] = [
     ("exports", "exports_c"),
     ("exports_outline", "exports_outline"),
+    ("exports_find", "exports_find"),
 ];
 
 fn main() {

@@ -2,7 +2,9 @@
 use Rattle.std.specs.Prelude.{cond, List, [], ◌∷◌, map, ℕ, eqb, length}
 use Rattle.boxes.specs.BoxesIn.{boxes_in, body_of}
 use Rattle.boxes.specs.Walk.{Box, bytes_of}
-use Rattle.items.specs.ItemBytes.{ItemBytes, bytes_at}
+use Rattle.octets.specs.declared.Span.{Span}
+use Rattle.mini.specs.Same.{span_bytes}
+use Rattle.items.specs.ItemBytes.{ItemBytes}
 use Rattle.items.specs.ItemLocations.{Location}
 use Rattle.items.specs.OneLocation.{locations_of}
 use Rattle.mini.specs.ItemKind.{MAIN, ALPHA, TMAP, GAIN_MAP, EXIF, XMP}
@@ -25,8 +27,11 @@ abbrev pub IPCO : ℕ
 IPCO = 0x6970636F
 
 -- those of 'meta' follow the four bytes of its version and flags
+abbrev pub iprp_in : List ℕ → List ℕ
+iprp_in f = body_of IPRP (meta_in f) 4
+
 unfoldable pub ipco_in : List ℕ → List ℕ
-ipco_in f = body_of IPCO (body_of IPRP (meta_in f) 4) 0
+ipco_in f = body_of IPCO (iprp_in f) 0
 
 -- ---- the slots: one is unused if its box is empty, whatever its type, since a codec configuration may have the type 'free'
 abbrev pub slot_in : Box → Slot
@@ -36,12 +41,12 @@ unfoldable pub slots_in : List ℕ → List Slot
 slots_in body = map slot_in (boxes_in body 0)
 
 -- ---- the items' bytes: those at the first location of the item's number, none where it has none
-abbrev pub first_bytes : List ℕ → List Location → List ℕ
-first_bytes f [] = []
-first_bytes f (l ∷ ls) = bytes_at f l
+abbrev pub first_span : List Location → Span
+first_span [] = record { at = 0; len = 0 }
+first_span (l ∷ ls) = record { at = l.off; len = l.len }
 
 abbrev pub located : List ℕ → ℕ → List ℕ
-located f id = first_bytes f (locations_of id (locations_in f))
+located f id = span_bytes (first_span (locations_of id (locations_in f))) f
 
 unfoldable pub item_bytes_in : List ℕ → ItemBytes
 item_bytes_in f =

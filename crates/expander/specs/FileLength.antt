@@ -12,18 +12,31 @@ use Rattle.items.specs.ItemLocations.{data_len, length-iloc}
 use Rattle.items.specs.ItemReferences.{length-iref}
 use Rattle.mini.specs.declared.MinimizedImage.{MinimizedImage}
 use Rattle.slots.specs.Associations.{iprp}
-use Rattle.slots.specs.Bodies.{bodies}
+use Rattle.slots.specs.Bodies.{Bodies, bodies}
 use Rattle.slots.specs.LengthLaws.{length-iprp}
 use Rattle.slots.specs.Lengths.{iprp_len}
-use Rattle.slots.specs.Sound.{sound}
+use Rattle.slots.specs.Sound.{Sound, sound}
 use Rattle.expander.specs.EquivalentFile.{item_bytes, data_lengths, item_boxes, meta_body, meta_body_len, meta, mdat, file_len, file}
 use Rattle.expander.specs.Expands.{Expands}
 use Rattle.expander.specs.Placed as placed
-use Rattle.expander.specs.Placed.{Fit, fit, data_placed, lengths_are}
+use Rattle.expander.specs.Placed.{DataPlaced, Fit, fit, data_placed, lengths_are}
 
 length-item_data : (b : ItemBytes) → length (item_data b) ≡ data_len (lengths_of b)
 unfolding item_data
 length-item_data b = simp length-append
+
+pub length-content : (i : MinimizedImage) (s : List ℕ) → DataPlaced i s → length (item_data (item_bytes i s)) ≡ data_len (data_lengths i)
+length-content i s p = length-item_data (item_bytes i s) ∙ ap data_len (lengths_are i s p)
+
+pub length-meta_body : (i : MinimizedImage) (s : List ℕ) (base : ℕ) → Sound i s → Bodies i.hdr_boxes → Bodies i.gain_map.tmap_hdr
+    → length (meta_body i s base) ≡ meta_body_len i
+unfolding meta_body item_boxes
+length-meta_body i s base o b t =
+    let p = length-iprp i s o b t in
+    simp (length-append, length-full_box_header, length-hdlr, length-pitm, length-iinf, length-iref, p, length-grpl, length-iloc)
+
+-- by which `grind` sees how long the bodies of 'meta' and 'mdat' are
+pub ruleset body_lengths = (length-meta_body, length-content)
 
 -- what the Rust decides by the length of mdat's content: above MAX_EXPANDED_BYTES it refuses, above half of u32::MAX less 4,096 its
 -- offsets and lengths take eight bytes, and above u32::MAX less 8 mdat's header takes sixteen
@@ -38,12 +51,12 @@ module _ (i : MinimizedImage) (s brands : List ℕ) (x : Expands i s brands) whe
       length-iprp i s (sound i s x.placed x.can_write) b.0 b.1
 
   pub length_meta_body : (base : ℕ) → length (meta_body i s base) ≡ meta_body_len i
-  unfolding meta_body item_boxes
   length_meta_body base =
-      simp (length-append, length-full_box_header, length-hdlr, length-pitm, length-iinf, length-iref, iprp_long, length-grpl, length-iloc)
+      let b = bodies i x.can_write in
+      length-meta_body i s base (sound i s x.placed x.can_write) b.0 b.1
 
   pub length_content : length (item_data (item_bytes i s)) ≡ data_len (data_lengths i)
-  length_content = length-item_data (item_bytes i s) ∙ ap data_len (lengths_are i s (data_placed i s x.placed))
+  length_content = length-content i s (data_placed i s x.placed)
 
   pub length_file : (major minor : ℕ) → length (file i s major minor brands) ≡ file_len i major minor brands
   unfolding file meta mdat

@@ -1,12 +1,12 @@
 -- The ways through the answer of expanding. Assumes nothing.
-use Rattle.std.specs.Prelude.{◌≡◌, Bool, ℕ, ◌≤◌, ◌<◌, ltb, Err}
+use Rattle.std.specs.Prelude.{◌≡◌, Bool, true, ℕ, ◌≤◌, ◌<◌, ltb, Err}
 use Rattle.std.proofs.Math.Path.{sym, ap, ap₂}
 use Rattle.std.proofs.Common.{◌∙◌, arith, subst, eq-eqb, ne_eqb, lt-ltb, le-ltb}
 use Rattle.std.proofs.Math.Bool.{cond}
 use mathlib.Core.List.{List, ◌++◌}
 use Rattle.std.proofs.Math.ListN.{length}
 use Rattle.octets.specs.Overwrite.{overwrite, Wrote}
-use Rattle.ftyp.specs.FileType.{file_type, file_type_box}
+use Rattle.ftyp.specs.FileType.{allowed, file_type, file_type_box}
 use Rattle.ftyp.specs.FileTypeLaws.{allowed_whole, ftyp_is}
 use Rattle.ftyp.specs.declared.EquivalentFileType.{EquivalentFileType}
 use Rattle.mini.specs.declared.MinimizedImage.{MinimizedImage}
@@ -21,6 +21,13 @@ use Rattle.expander.specs.Plan.{file_plan}
 use Rattle.expander.specs.declared.file.FilePlan.{FilePlan}
 use Rattle.expander.specs.declared.refusal.ExpandError.{ExpandError}
 use Rattle.expander.specs.declared.refusal.ExpandError.TheVariants.{Misplaced, Unwritable, NativeAlpha, UuidCodecType, NoCodecTypes, BrandList, TooShort}
+
+-- the boxes of the file as they are written
+pub file_boxes : (i : MinimizedImage) (s : List ℕ) (major minor : ℕ) (brands : List ℕ) → allowed brands ≡ true
+    → file_type_box (file_type major minor i.has_gain_map brands) brands ++ meta i s (content_start i major minor brands) ++ mdat i s ≡ file i s major minor brands
+unfolding file
+file_boxes i s major minor brands h =
+    ap (λ (z : List ℕ). z ++ meta i s (content_start i major minor brands) ++ mdat i s) (ftyp_is major minor i.has_gain_map brands (allowed_whole brands h))
 
 -- 10 to 15 come with 0
 pub refused_of : (e : ExpandError) {r : ℕ} → number e ≡ r → r ≤ 15 → outcome_of (Err e) ≡ record { refusal = r; value = 0 }
@@ -84,15 +91,14 @@ module _ (i : MinimizedImage) (s : List ℕ) (major minor : ℕ) (brands : List 
         → t ≡ file_type major minor i.has_gain_map brands → base ≡ content_start i major minor brands
         → Wrote out 0 m (file_type_box t brands ++ meta i s base ++ mdat i s) out' q
         → ◌≡◌ {A = Written × List ℕ} (record { refusal = 0; value = k }, out') (expanded i s major minor brands out)
-    unfolding expanded file
+    unfolding expanded
     expand-done {k} {out' = out'} e f h et eb w =
         let g : k ≡ n = f ∙ sym (file_length e) in
         let x = expands i s brands e in
         let b : out' ≡ overwrite out 0 (file i s major minor brands) =
         w.left
         ∙ ap₂ (λ (z : EquivalentFileType) (y : ℕ). overwrite out 0 (file_type_box z brands ++ meta i s y ++ mdat i s)) et eb
-        ∙ ap (λ (z : List ℕ). overwrite out 0 (z ++ meta i s (content_start i major minor brands) ++ mdat i s))
-        (ftyp_is major minor i.has_gain_map brands (allowed_whole brands x.brands_allowed)) in
+        ∙ ap (overwrite out 0) (file_boxes i s major minor brands x.brands_allowed) in
         ap₂ (λ (j : ℕ) (z : List ℕ). (record { refusal = 0; value = j }, z)) g b
         ∙ sym
         (ap₂ (λ (t u : Bool). cond t (cond u (refused 16 n out) done) (refused r 0 out)) (eq-eqb r 0 e)

@@ -17,7 +17,7 @@ use ftyp::{EquivalentFileType, FileType, equivalent_file_type, ftyp_len};
 use mini::MinimizedImage;
 
 // Where mdat's content begins.
-fn content_start(image: MinimizedImage, t: EquivalentFileType, brands: &[u8]) -> usize
+pub fn content_start(image: MinimizedImage, t: EquivalentFileType, brands: &[u8]) -> usize
     requires { Bounded image × (DataBounded image × (allowed brands.now ≡ true)) }
     ensures { (result ≡ file_type_len t brands.now + (8 + meta_body_len image) + 8) × (result ≤ 2116000) }
 {

@@ -21,13 +21,13 @@ use slots::groups::{has_alpha_item, has_gain_map_item};
 use slots::iprp::put_iprp;
 use slots::lengths::iprp_len;
 
-const META: FourCc = 0x6D657461;
+pub const META: FourCc = 0x6D657461;
 
-const MDAT: FourCc = 0x6D646174;
+pub const MDAT: FourCc = 0x6D646174;
 
 // A function and no `From`, since neither type is of this crate.
 #[tactic(auto, unfolding(crate::specs::EquivalentFile::item_set))]
-fn item_set(image: MinimizedImage) -> ItemSet
+pub fn item_set(image: MinimizedImage) -> ItemSet
     ensures { result ≡ item_set image }
 {
     ItemSet {
@@ -46,7 +46,7 @@ fn item_set(image: MinimizedImage) -> ItemSet
 
 // The handler, the primary item, the items and their references.
 #[tactic(auto, using(octets::specs::OverwriteLaws::writes), unfolding(crate::specs::EquivalentFile::item_boxes))]
-fn put_item_boxes(out: &mut [u8], at: usize, set: ItemSet) -> usize
+pub fn put_item_boxes(out: &mut [u8], at: usize, set: ItemSet) -> usize
     requires { at + item_boxes_len set ≤ length out.old }
     ensures { Wrote out.old at (item_boxes_len set) (item_boxes set) out.new result }
 {

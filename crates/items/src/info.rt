@@ -9,7 +9,7 @@ use boxes::{FourCc, put_boxed, put_four_cc, put_full_box_header};
 use mini::ItemKind;
 use octets::{copy_in, put, put_u8};
 
-const IINF: FourCc = 0x69696E66;
+pub const IINF: FourCc = 0x69696E66;
 
 const INFE: FourCc = 0x696E6665;
 
@@ -19,7 +19,7 @@ const MIME: FourCc = 0x6D696D65;
 
 const EXIF: FourCc = 0x45786966;
 
-const DEFLATED_EXIF: FourCc = 0x64457866;
+pub const DEFLATED_EXIF: FourCc = 0x64457866;
 
 // The flags of an entry: numbers, no enum, since a box's flags are the number that is written.
 const SHOWN: u32 = 0;

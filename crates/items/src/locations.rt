@@ -8,7 +8,7 @@ use boxes::{FourCc, put_boxed, put_full_box_header};
 use mini::{ItemKind, Span};
 use octets::put;
 
-const ILOC: FourCc = 0x696C6F63;
+pub const ILOC: FourCc = 0x696C6F63;
 
 // How many bytes `put_entry` writes.
 const ENTRY_LEN: usize = 16;

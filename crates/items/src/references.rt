@@ -11,11 +11,11 @@ use boxes::{FourCc, put_boxed, put_full_box_header};
 use mini::ItemKind;
 use octets::put;
 
-const IREF: FourCc = 0x69726566;
+pub const IREF: FourCc = 0x69726566;
 
 const AUXL: FourCc = 0x6175786C;
 
-const PREM: FourCc = 0x7072656D;
+pub const PREM: FourCc = 0x7072656D;
 
 const DIMG: FourCc = 0x64696D67;
 

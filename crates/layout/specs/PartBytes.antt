@@ -9,7 +9,7 @@ abbrev pub flag_bytes : Bool → List ℕ
 flag_bytes true = 1 ∷ []
 flag_bytes false = 0 ∷ []
 
--- SPAN: position and length in the payload
+-- SPAN: position and length in the bytes lent
 unfoldable pub span_bytes : Span → List ℕ
 span_bytes s = be 8 s.at ++ be 8 s.len
 

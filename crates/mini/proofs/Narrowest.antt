@@ -8,9 +8,10 @@ use Rattle.std.proofs.lemmas.Bool.{false≢true}
 use Rattle.std.proofs.Math.Dec.{ltb}
 use Rattle.bits.specs.Format.{◌>>=◌, field_if, minus1_if, flag_if, sized, view}
 use Rattle.bits.specs.Bit.{to_n, length-bits_n}
-use Rattle.mini.specs.Syntax.{header, dimensions, gain_map_header, gain_map_dimension, chunk_sizes}
+use Rattle.mini.specs.Syntax.{header, dimensions, chroma, tmap_cicp, gain_map_header, gain_map_dimension, gain_map_format, chunk_sizes}
 use Rattle.mini.specs.RecordHeader.{parts, whole}
 use Rattle.mini.specs.Same.{chunk_len}
+use Rattle.mini.specs.Views.{is_float}
 use Rattle.mini.specs.Write.{Choices, least, header_with}
 use Rattle.mini.specs.declared.MinimizedImage.{MinimizedImage}
 use Rattle.mini.specs.OptionalFields.{or_none, flag_good, flag_if_good, gain_more, flag_if-off}
@@ -308,7 +309,7 @@ step_width a b k true false h m = over (m refl)
 step_width a b k false true h m = absurd (true≢false (h refl))
 step_width a b k false false h m = even refl refl
 
-abbrev gain_len : Bool → Bool → Bool → ℕ
+abbrev pub gain_len : Bool → Bool → Bool → ℕ
 gain_len has same large = sized has (sized same 0 (sized large 15 7)) 0
 
 abbrev dim_len : Bool → Bool → Bool → ℕ
@@ -359,7 +360,7 @@ unfolding view
 len_more true n v = length-bits_n n (v - 1) ∙ omega arith
 len_more false n v = omega arith
 
-len_flag : (t b : Bool) → length ((flag_if t).print b) ≡ to_n t
+pub len_flag : (t b : Bool) → length ((flag_if t).print b) ≡ to_n t
 unfolding view
 len_flag true b = refl
 len_flag false b = refl
@@ -376,7 +377,7 @@ md_count i =
     to_n (is_some i.icc)
     + (to_n (i.has_gain_map && is_some i.gain_map.tmap_icc) + (to_n i.has_gain_map + (to_n (is_some i.exif) + to_n (is_some i.xmp))))
 
-abbrev cc_count : MinimizedImage → ℕ
+abbrev pub cc_count : MinimizedImage → ℕ
 cc_count i = 1 + (to_n (i.alpha && ltb 0 i.alpha_data.len) + to_n (i.has_gain_map && ltb 0 i.gain_map.«data».len))
 
 abbrev id_count : MinimizedImage → ℕ
@@ -387,20 +388,21 @@ varying i c =
     dim_len i.has_gain_map c.same c.large
     + (sized c.metadata 20 10 * md_count i + (sized c.config 12 3 * cc_count i + sized c.item 28 15 * id_count i))
 
-len_dims : (i : MinimizedImage) (c : Choices) → length (dimensions.print (header_with i c).dimensions) ≡ 1 + (sized c.large 15 7 + sized c.large 15 7)
+pub len_dims : (i : MinimizedImage) (c : Choices) → length (dimensions.print (header_with i c).dimensions) ≡ 1 + (sized c.large 15 7 + sized c.large 15 7)
 unfolding dimensions header_with ◌>>=◌ view
 len_dims i c = simp (length-append, length-bits_n) (omega arith)
 
--- the gain map's head costs the same under other choices, but for the dimensions
-len_gain : (i : MinimizedImage) (c d : Choices)
+-- the gain map's head: its own fields, beside those whose width the choices give
+pub len_gain : (i : MinimizedImage) (c : Choices)
     → length ((gain_map_header i.hdr (header_with i c).dimensions).print (header_with i c).gain_map)
-    + (gain_len i.has_gain_map d.same d.large + gain_len i.has_gain_map d.same d.large)
-    ≡ length ((gain_map_header i.hdr (header_with i d).dimensions).print (header_with i d).gain_map)
-    + (gain_len i.has_gain_map c.same c.large + gain_len i.has_gain_map c.same c.large)
+    ≡ to_n i.hdr + 15 * to_n i.has_gain_map + 2 * gain_len i.has_gain_map c.same c.large
+    + length ((chroma i.gain_map.chroma.subsampling).print i.gain_map.chroma)
+    + length ((gain_map_format i.has_gain_map (is_float i.gain_map.format)).print i.gain_map.format)
+    + length ((tmap_cicp (is_some i.gain_map.tmap_cicp)).print i.gain_map.tmap_cicp)
 unfolding gain_map_header header_with ◌>>=◌ view
-len_gain i c d = simp (length-append, len_flag, len_gain_map_dimension) (omega arith)
+len_gain i c = simp (length-append, len_flag, len_field, len_gain_map_dimension) (omega arith)
 
-len_sizes : (i : MinimizedImage) (c : Choices)
+pub len_sizes : (i : MinimizedImage) (c : Choices)
     → length ((chunk_sizes (header_with i c).flags (header_with i c).gain_map).print (header_with i c).sizes)
     ≡ to_n (is_some i.icc || is_some i.exif || is_some i.xmp || i.has_gain_map)
     + (2 + (to_n (is_some i.exif || is_some i.xmp)
@@ -413,7 +415,7 @@ len_header : (i : MinimizedImage) (c d : Choices)
 unfolding header header_with ◌>>=◌ view
 len_header i c d =
     simp length-append
-    (omega (arith, len_dims i c, len_dims i d, len_gain i c d, len_sizes i c, len_sizes i d))
+    (omega (arith, len_dims i c, len_dims i d, len_gain i c, len_gain i d, len_sizes i c, len_sizes i d))
 
 or_count : (a b : Bool) → to_n (a || b) ≤ to_n a + to_n b
 or_count true b = omega arith
@@ -423,10 +425,10 @@ on_unless : (a m : Bool) → (a ≡ false → m ≡ false) → m ≡ true → 1 
 on_unless true m h e = omega arith
 on_unless false m h e = absurd (true≢false (sym e ∙ h refl))
 
-abbrev pub Same : Choices → Choices → Type 0
-Same d c = ((d.large ≡ c.large) × (d.same ≡ c.same)) × ((d.metadata ≡ c.metadata) × ((d.config ≡ c.config) × (d.item ≡ c.item)))
+abbrev pub SameChoices : Choices → Choices → Type 0
+SameChoices d c = ((d.large ≡ c.large) × (d.same ≡ c.same)) × ((d.metadata ≡ c.metadata) × ((d.config ≡ c.config) × (d.item ≡ c.item)))
 
-pub same_choices : (d c : Choices) → Same d c → d ≡ c
+pub same_choices : (d c : Choices) → SameChoices d c → d ≡ c
 same_choices d c e =
     λ j. record { large = e.0.0 j; same = e.0.1 j; metadata = e.1.0 j; config = e.1.1.0 j; item = e.1.1.1 j }
 
@@ -441,7 +443,7 @@ md_count_lem i =
 
 -- any other choices cost nine bits more at least
 pub least_step : (i : MinimizedImage) (c : Choices) → header.Good (header_with i c)
-    → Step (Same (least i) c) (length (header.print (header_with i (least i)))) (length (header.print (header_with i c)))
+    → Step (SameChoices (least i) c) (length (header.print (header_with i (least i)))) (length (header.print (header_with i c)))
 least_step i c good =
     let d = least i in
     let m : c.metadata ≡ true → 10 * md_count i + 9 ≤ 20 * md_count i =

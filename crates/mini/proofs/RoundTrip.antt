@@ -13,12 +13,12 @@ use Rattle.mini.specs.Image.{image_of}
 use Rattle.mini.specs.Bytes.{bytes_take}
 use Rattle.mini.specs.Cut.{within_of, sum, joined, cut, cut-joined, joined-cut, length-joined}
 use Rattle.mini.specs.Payload.{header-bytes, header_padded, header_bits, chunks_start, Reads, accepted, reads_back, reads_inv, reads_image, found}
-use Rattle.mini.specs.Same.{chunk_len, unplaced_chunk, unplaced, chunk_bytes, span_bytes, chunks_of, chunk_in, span_in, gain_in, well_placed}
+use Rattle.mini.specs.Same.{chunk_len, unplaced_chunk, unplaced, chunk_bytes, span_bytes, chunks_of, chunk_in, span_in, gain_in, well_placed, Same}
 use Rattle.mini.specs.Write.{Choices, least, header_with, header_of, payload_with, payload_of, not_empty, writable}
 use Rattle.mini.specs.RecordHeader.{parts, choices_of, image_again, header_again}
 use Rattle.mini.proofs.RecordHeader.{chunks_again}
 use Rattle.mini.specs.OptionalFields.{field_if-off}
-use Rattle.mini.proofs.Narrowest.{Step, even, over, Same, same_choices, least_good, least_step}
+use Rattle.mini.proofs.Narrowest.{Step, even, over, SameChoices, same_choices, least_good, least_step}
 use Rattle.mini.specs.declared.Header.{Header}
 use Rattle.octets.specs.declared.Span.{Span}
 use Rattle.mini.specs.declared.MinimizedImage.{MinimizedImage}
@@ -228,7 +228,7 @@ pub header-unplaced : (i : MinimizedImage) → header_of (unplaced i) ≡ header
 unfolding header_of header_with least unplaced
 header-unplaced i = simp (len_unplaced, present_unplaced)
 
-writable-unplaced : (i : MinimizedImage) → writable (unplaced i) ≡ writable i
+pub writable-unplaced : (i : MinimizedImage) → writable (unplaced i) ≡ writable i
 unfolding writable unplaced
 writable-unplaced i =
     ap (λ (h : Header). header.good h && (not_empty (unplaced_chunk i.alpha_codec_config) && not_empty (unplaced_chunk i.gain_map.codec_config))) (header-unplaced i)
@@ -239,7 +239,7 @@ reads_writable s i t r =
     subst T (sym (writable-unplaced (read_mini s).image) ∙ ap writable r.same ∙ writable-unplaced i) (read_writable s r.took)
 
 -- ---- what is written is the one shortest payload
-len_payload : (h : Header) (cs : List (List ℕ)) → length (payload_with h cs) ≡ chunks_start h + length (joined cs)
+pub len_payload : (h : Header) (cs : List (List ℕ)) → length (payload_with h cs) ≡ chunks_start h + length (joined cs)
 unfolding payload_with
 len_payload h cs =
     length-append (bytes_of (chunks_start h) (header_bits h)) (joined cs)
@@ -273,7 +273,7 @@ shortest_of s h bs r = go (least_step j c (found-header h (chunks_start h) r.goo
     sp : s ≡ payload_with h cs ++ rest
     sp = split s h bs r
 
-    go : Step (Same (least j) c) (length (header.print (header_with j (least j)))) (length (header.print (header_with j c)))
+    go : Step (SameChoices (least j) c) (length (header.print (header_with j (least j)))) (length (header.print (header_with j c)))
         → (s ≡ payload_with (header_with j (least j)) cs) ⊎ (length (payload_with (header_with j (least j)) cs) < length s)
     go (even e f) =
         tail_cases (payload_with (header_with j (least j)) cs) s rest
@@ -291,15 +291,21 @@ shortest_of s h bs r = go (least_step j c (found-header h (chunks_start h) r.goo
           ap (λ (x : Header). length (header.print x)) again,
         ))
 
+-- records that are the same have one payload
+pub same_payload : (i : MinimizedImage) (s : List ℕ) (j : MinimizedImage) (t : List ℕ) → Same i s j t → payload_of i s ≡ payload_of j t
+unfolding payload_of
+same_payload i s j t same =
+    ap₂ payload_with (sym (header-unplaced i) ∙ ap header_of same.fields ∙ header-unplaced j) same.chunks
+
 pub shortest : (s : List ℕ) (i : MinimizedImage) (t : List ℕ) → T (are_bytes s) → ReadsTo s i t
     → (s ≡ payload_of i t) ⊎ (length (payload_of i t) < length s)
-unfolding payload_of accepted
+unfolding accepted
 shortest s i t bs r =
-    let h = found s in
-    let j = image_of h (chunks_start h) in
-    let e : read_mini s ≡ accepted h = reads_image s r.took in
-    let u : unplaced j ≡ unplaced i = sym (ap (λ (x : Reading). unplaced x.image) e) ∙ r.same in
-    let k : chunks_of j s ≡ chunks_of i t = sym (ap (λ (x : Reading). chunks_of x.image s) e) ∙ r.chunks in
-    let hi : header_of j ≡ header_of i = sym (header-unplaced j) ∙ ap header_of u ∙ header-unplaced i in
-    let q : payload_of j s ≡ payload_of i t = ap₂ (λ (x : Header) (y : List (List ℕ)). payload_with x y) hi k in
-    subst (λ (y : List ℕ). (s ≡ y) ⊎ (length y < length s)) q (shortest_of s h bs (reads_inv s r.took))
+    let j = image_of (found s) (chunks_start (found s)) in
+    let e : read_mini s ≡ accepted (found s) = reads_image s r.took in
+    let same : Same j s i t =
+    record {
+      fields = sym (ap (λ (x : Reading). unplaced x.image) e) ∙ r.same;
+      chunks = sym (ap (λ (x : Reading). chunks_of x.image s) e) ∙ r.chunks;
+    } in
+    subst (λ (y : List ℕ). (s ≡ y) ⊎ (length y < length s)) (same_payload j s i t same) (shortest_of s (found s) bs (reads_inv s r.took))

@@ -319,6 +319,31 @@ impl Default for MiniHdrBoxes {
     }
 }
 
+// Absent: the fields of the blank record.
+impl Default for MiniGainMap {
+    ghost use Rattle.std.specs.Prelude.{◌≡◌};
+    ghost use Rattle.mini.specs.Blank.{blank_gain_map};
+
+    ghost is_default = { λ g. g ≡ blank_gain_map };
+
+    fn default() -> Self {
+        MiniGainMap {
+            width: 0,
+            height: 0,
+            matrix_coefficients: 0,
+            full_range: false,
+            chroma: MiniChroma::default(),
+            format: SampleFormat::default(),
+            tmap_cicp: None,
+            tmap_icc: None,
+            tmap_hdr: MiniHdrBoxes::default(),
+            metadata: Span::default(),
+            codec_config: None,
+            data: Span::default(),
+        }
+    }
+}
+
 impl SampleFormat {
     // The bits of a sample.
     pub fn bits(self) -> u8
@@ -356,7 +381,7 @@ pub fn cclv_more(flags: u8) -> usize
 }
 
 // The values of Table O.3, with or without an ICC profile: two choices, as the table has them.
-fn table_cicp(icc: bool, chroma: MiniChroma) -> Cicp
+pub fn table_cicp(icc: bool, chroma: MiniChroma) -> Cicp
     ensures { result ≡ table_cicp icc chroma.subsampling }
 {
     let (primaries, transfer) = if icc { (2, 2) } else { (1, 13) };

@@ -11,6 +11,7 @@ pub mod RecordAgain
 pub mod RecordConfigs
 pub mod RecordGainMap
 pub mod RecordParts
+pub mod SameFile
 pub mod SameLaws
 pub mod ShortForms
 pub mod SlotsHdr

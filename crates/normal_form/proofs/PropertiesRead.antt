@@ -1,6 +1,7 @@
 -- Properties read back: the fields that are read from the box of a property are those that it was made of.
-use Rattle.std.specs.Prelude.{◌≡◌, refl, Bool, true, false, cond, ◌||◌, List, [], ◌∷◌, ℕ, zero, suc, ◌^◌, ◌≤◌, ◌<◌, eqb, length, take, drop, Some}
-use Rattle.std.proofs.Common.{◌∙◌, arith, mod-eq_of_lt, length-take-le, take-append-drop}
+use Rattle.std.specs.Prelude.{◌≡◌, refl, Bool, true, false, cond, ◌||◌, List, [], ◌∷◌, ℕ, zero, suc, ◌-◌, ◌^◌, ◌≤◌, ◌<◌, eqb, length, take, drop, get_or, replicate, Some}
+use Rattle.std.proofs.Common.{◌∙◌, append-nil, arith, mod-eq_of_lt, length-take-le, take-append-drop, take_all}
+use Rattle.std.proofs.Math.Seq.{take-nil}
 use Rattle.octets.specs.BigEndian.{be, num}
 use Rattle.octets.specs.BigEndianLaws.{num-be}
 use Rattle.boxes.specs.Boxed.{box_header, boxed, full_box_header}
@@ -31,15 +32,20 @@ module _ (w h : ℕ) where
 
 -- ---- 'colr' nclx
 module _ (c : Cicp) (full : Bool) where
+  -- a code of 8 bits in two bytes
+  low : (x : ℕ) → x ≤ 255 → get_or (be 2 x) 1 0 ≡ x
+  unfolding be
+  low x h = mod-eq_of_lt (omega (arith, h))
+
   abbrev body : List ℕ
   body = drop 8 (nclx c.primaries c.transfer c.matrix full)
 
   pub cicp_read : CicpIn (Some c) → cicp_in body ≡ c
   unfolding nclx nclx_body boxed box_header be num
   cicp_read h =
-      let p = be_read 2 c.primaries (omega (arith, h.0)) in
-      let t = be_read 2 c.transfer (omega (arith, h.1)) in
-      let m = be_read 2 c.matrix (omega (arith, h.2)) in
+      let p = low c.primaries h.0 in
+      let t = low c.transfer h.1 in
+      let m = low c.matrix h.2 in
       λ j. record { primaries = p j; transfer = t j; matrix = m j }
 
   pub range_read : range_in body ≡ full
@@ -93,9 +99,22 @@ orientation_read (suc (suc (suc (suc (suc (suc (suc zero))))))) h = refl
 orientation_read (suc (suc (suc (suc (suc (suc (suc (suc zero)))))))) h = refl
 orientation_read (suc (suc (suc (suc (suc (suc (suc (suc (suc o))))))))) h = absurd (omega (arith, h.1))
 
--- ---- a 'cclv' body, with zeros up to 37 bytes
-pub cclv_read : (held : List ℕ) → length held ≡ 37 → CclvEnds held → padded (take (cclv_length held) held) ≡ held
+-- ---- HDR bodies: those of their length as they are, a 'cclv' body with zeros up to 37 bytes, and none as zeros
+pub padded_all : (n : ℕ) (body : List ℕ) → length body ≡ n → padded n body ≡ body
+padded_all n body l =
+    let z : n - length body ≡ 0 = omega (arith, l) in
+    rw (z, append-nil) (take_all n body (omega (arith, l)))
+
+pub padded_none : (n : ℕ) → padded n [] ≡ replicate n 0
+padded_none n =
+    let z : n - 0 ≡ n = omega arith in
+    rw (take-nil, z) refl
+
+pub cclv_read : (held : List ℕ) → length held ≡ 37 → CclvEnds held → padded 37 (take (cclv_length held) held) ≡ held
 unfolding cclv_more
 cclv_read held l e =
     let n : length (take (cclv_length held) held) ≡ cclv_length held = length-take-le (cclv_length held) held (omega arith) in
-    rw (n, ← e) (take-append-drop (cclv_length held) held)
+    let m : cclv_length held ≤ 37 = omega arith in
+    let a : take 37 (take (cclv_length held) held) ≡ take (cclv_length held) held =
+    take_all 37 (take (cclv_length held) held) (omega (arith, n, m)) in
+    rw (a, n, ← e) (take-append-drop (cclv_length held) held)

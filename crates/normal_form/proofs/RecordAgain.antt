@@ -26,7 +26,8 @@ use Rattle.normal_form.proofs.RecordParts.{span_again, chunk_again, cicp_small, 
 use Rattle.normal_form.proofs.ShortForms.{cicp_again}
 use Rattle.normal_form.proofs.SlotsHdr.{hdr_read}
 use Rattle.normal_form.proofs.SlotsRead.{irot_read, imir_read, profile_read, profile_placed, config_body}
-use Rattle.normal_form.proofs.SlotsTable.{flat_slots, flat_carried, carried_is}
+use Rattle.normal_form.proofs.SlotsTable.{flat_carried, carried_is}
+use Rattle.slots.specs.SlotLaws.{flat_slots}
 
 module _ (i : MinimizedImage) (s brands : List ℕ) (x : Expands i s brands) where
   l : Lawful i

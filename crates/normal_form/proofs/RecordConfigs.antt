@@ -14,7 +14,7 @@ use Rattle.normal_form.specs.ReadProperties.{body_in}
 use Rattle.normal_form.specs.ReadRecord.{config_type_in}
 use Rattle.normal_form.proofs.RecordParts.{no_data, types_again}
 use Rattle.normal_form.proofs.SlotsRead.{ReadAs, config_again, config_told}
-use Rattle.normal_form.proofs.SlotsTable.{gate, flat_slots}
+use Rattle.slots.specs.SlotLaws.{gate, flat_slots}
 
 module _ (i : MinimizedImage) (s brands : List ℕ) (x : Expands i s brands) where
   abbrev g : MiniGainMap

@@ -21,7 +21,7 @@ use Rattle.expander.specs.EquivalentFile.{item_type}
 use Rattle.normal_form.specs.NormalForm.{has_body, without_config_type}
 use Rattle.normal_form.specs.ReadProperties.{span_of, profile_bytes}
 use Rattle.normal_form.proofs.SlotsRead.{profile_read}
-use Rattle.normal_form.proofs.SlotsTable.{gate}
+use Rattle.slots.specs.SlotLaws.{gate}
 
 -- ---- chunks
 pub span_again : (x : Span) (s : List ℕ) → SpanPlaced x s → span_of (length (span_bytes x s)) ≡ unplaced_span x

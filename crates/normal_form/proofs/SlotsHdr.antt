@@ -1,7 +1,7 @@
 -- HDR bodies read back from their slots: a law for each kind of body, and one for all six.
-use Rattle.std.specs.Prelude.{◌≡◌, Bool, true, false, cond, List, ℕ, drop, replicate, refl}
+use Rattle.std.specs.Prelude.{◌≡◌, Bool, true, false, List, [], ℕ, drop, refl}
 use Rattle.std.specs.Bool.{then_some}
-use Rattle.std.proofs.Common.{sym}
+use Rattle.std.proofs.Common.{sym, ◌∙◌}
 use Rattle.octets.specs.BigEndian.{be}
 use Rattle.boxes.specs.Boxed.{box_header, boxed, full_box_header}
 use Rattle.mini.specs.Ranges.{Body, CclvEnds, Bodies}
@@ -11,23 +11,23 @@ use Rattle.properties.specs.Property.{full_box}
 use Rattle.properties.specs.declared.hdr_boxes.HdrBox.{HdrBox}
 use Rattle.properties.specs.declared.hdr_boxes.HdrBox.TheVariants.{Clli, Mdcv, Cclv, Amve, Reve, Ndwt}
 use Rattle.slots.specs.SlotLaws.{used_held}
-use Rattle.slots.specs.Slots.{Slot, is_used, hdr_slot}
-use Rattle.normal_form.specs.ReadProperties.{body_in, held_in, padded, hdr_in}
-use Rattle.normal_form.proofs.PropertiesRead.{cclv_read}
+use Rattle.slots.specs.Slots.{Slot, hdr_slot}
+use Rattle.normal_form.specs.ReadProperties.{body_in, padded, hdr_in}
+use Rattle.normal_form.proofs.PropertiesRead.{padded_all, padded_none, cclv_read}
 
 abbrev slot : Bool → HdrBox → Slot
 slot has held = hdr_slot (then_some has held)
 
 -- a body that is held in its box, read from behind the header
-held_read : (t : Bool) (n : ℕ) (box : HdrBox) (read : List ℕ → List ℕ) (body : List ℕ) → Body t n body → read (drop 8 (hdr_box box)) ≡ body
-    → cond (is_used (slot t box)) (read (body_in (slot t box))) (replicate n 0) ≡ body
-held_read true n box read body b e = e
-held_read false n box read body b e = sym (b.0 refl)
+held_read : (t : Bool) (n : ℕ) (box : HdrBox) (read : List ℕ → List ℕ) (body : List ℕ) → Body t n body → read [] ≡ [] → read (drop 8 (hdr_box box)) ≡ body
+    → padded n (read (body_in (slot t box))) ≡ body
+held_read true n box read body b z e = rw e (padded_all n body b.1.0)
+held_read false n box read body b z e = rw z (padded_none n ∙ sym (b.0 refl))
 
-cclv_held : (t : Bool) (held : List ℕ) → Body t 37 held → CclvEnds held → padded (held_in (slot t (Cclv held)) 37) ≡ held
+cclv_held : (t : Bool) (held : List ℕ) → Body t 37 held → CclvEnds held → padded 37 (body_in (slot t (Cclv held))) ≡ held
 unfolding cclv boxed box_header be
 cclv_held true held b e = cclv_read held b.1.0 e
-cclv_held false held b e = sym (b.0 refl)
+cclv_held false held b e = padded_none 37 ∙ sym (b.0 refl)
 
 pub hdr_read : (h : MiniHdrBoxes) → Bodies h
     → hdr_in (slot h.has_clli (Clli h.clli)) (slot h.has_mdcv (Mdcv h.mdcv)) (slot h.has_cclv (Cclv h.cclv)) (slot h.has_amve (Amve h.amve))
@@ -43,10 +43,10 @@ hdr_read h b =
       has_amve = used_held h.has_amve (Amve h.amve) j;
       has_reve = used_held h.has_reve (Reve h.reve) j;
       has_ndwt = used_held h.has_ndwt (Ndwt h.ndwt) j;
-      clli = held_read h.has_clli 4 (Clli h.clli) plain h.clli b.clli_body refl j;
-      mdcv = held_read h.has_mdcv 24 (Mdcv h.mdcv) plain h.mdcv b.mdcv_body refl j;
+      clli = held_read h.has_clli 4 (Clli h.clli) plain h.clli b.clli_body refl refl j;
+      mdcv = held_read h.has_mdcv 24 (Mdcv h.mdcv) plain h.mdcv b.mdcv_body refl refl j;
       cclv = cclv_held h.has_cclv h.cclv b.cclv_body b.cclv_ends j;
-      amve = held_read h.has_amve 8 (Amve h.amve) plain h.amve b.amve_body refl j;
-      reve = held_read h.has_reve 20 (Reve h.reve) (drop 4) h.reve b.reve_body refl j;
-      ndwt = held_read h.has_ndwt 4 (Ndwt h.ndwt) (drop 4) h.ndwt b.ndwt_body refl j;
+      amve = held_read h.has_amve 8 (Amve h.amve) plain h.amve b.amve_body refl refl j;
+      reve = held_read h.has_reve 20 (Reve h.reve) (drop 4) h.reve b.reve_body refl refl j;
+      ndwt = held_read h.has_ndwt 4 (Ndwt h.ndwt) (drop 4) h.ndwt b.ndwt_body refl refl j;
     }

@@ -20,7 +20,7 @@ use Rattle.normal_form.specs.NormalForm.{short_config, srgb, short_tmap_cicp}
 use Rattle.normal_form.specs.ReadProperties.{body_in, type_in, turn_in, profile_bytes, profile_in, config_bytes, config_in, span_of}
 use Rattle.normal_form.specs.ReadRecord.{tone_in}
 use Rattle.normal_form.proofs.PropertiesRead.{be_read, cicp_read, range_read}
-use Rattle.normal_form.proofs.SlotsTable.{gate}
+use Rattle.slots.specs.SlotLaws.{gate}
 
 -- ---- turns
 pub irot_read : (t : Option ℕ) → turn_in (irot_slot t) ≡ t

@@ -1,5 +1,5 @@
 -- What the properties of a file say: the bodies of the slots, each read as its box is written (properties/specs).
-use Rattle.std.specs.Prelude.{Bool, false, not, cond, ◌&&◌, List, [], ◌++◌, ℕ, ◌+◌, ◌-◌, ◌%◌, eqb, ltb, leb, length, drop, get_or, replicate, Option, Some, None}
+use Rattle.std.specs.Prelude.{Bool, false, not, cond, ◌&&◌, List, [], ◌++◌, ℕ, ◌+◌, ◌-◌, ◌%◌, eqb, ltb, leb, length, take, drop, get_or, replicate, Option, Some, None}
 use Rattle.bits.specs.Format.{is_list}
 use Rattle.octets.specs.BigEndian.{num}
 use Rattle.octets.specs.declared.Span.{Span}
@@ -53,9 +53,9 @@ chroma_of channels second =
 abbrev pub chroma_in : List ℕ → MiniChroma
 chroma_in body = chroma_of (get_or body 4 0) (get_or body 11 0)
 
--- 'colr' nclx
+-- 'colr' nclx: each code in two bytes, of which the second holds it
 abbrev pub cicp_in : List ℕ → Cicp
-cicp_in body = record { primaries = num 2 body 4; transfer = num 2 body 6; matrix = num 2 body 8 }
+cicp_in body = record { primaries = get_or body 5 0; transfer = get_or body 7 0; matrix = get_or body 9 0 }
 
 abbrev pub range_in : List ℕ → Bool
 range_in body = eqb (get_or body 10 0) 0x80
@@ -89,13 +89,11 @@ orientation_of None (Some m) = cond (eqb m 1) 2 4
 orientation_of (Some a) None = cond (eqb a 2) 3 (cond (eqb a 3) 6 8)
 orientation_of (Some a) (Some m) = cond (eqb m 0) 5 7
 
--- an HDR body, zeros where there is none; a cclv's with zeros up to 37 bytes; 'reve' and 'ndwt' are full boxes, whose version and flags come first
-abbrev pub held_in : Slot → ℕ → List ℕ
-held_in x n = cond (is_used x) (body_in x) (replicate n 0)
+-- n bytes of a body, with zeros where it is shorter: a cclv's ends before its 37 bytes, and an HDR body that is absent is all zeros
+abbrev pub padded : ℕ → List ℕ → List ℕ
+padded n body = take n body ++ replicate (n - length body) 0
 
-abbrev pub padded : List ℕ → List ℕ
-padded body = body ++ replicate (37 - length body) 0
-
+-- 'reve' and 'ndwt' are full boxes, whose version and flags come first
 abbrev pub hdr_in : (a b c d e f : Slot) → MiniHdrBoxes
 hdr_in a b c d e f =
     record {
@@ -105,10 +103,10 @@ hdr_in a b c d e f =
       has_amve = is_used d;
       has_reve = is_used e;
       has_ndwt = is_used f;
-      clli = held_in a 4;
-      mdcv = held_in b 24;
-      cclv = padded (held_in c 37);
-      amve = held_in d 8;
-      reve = cond (is_used e) (drop 4 (body_in e)) (replicate 20 0);
-      ndwt = cond (is_used f) (drop 4 (body_in f)) (replicate 4 0);
+      clli = padded 4 (body_in a);
+      mdcv = padded 24 (body_in b);
+      cclv = padded 37 (body_in c);
+      amve = padded 8 (body_in d);
+      reve = padded 20 (drop 4 (body_in e));
+      ndwt = padded 4 (drop 4 (body_in f));
     }

@@ -1,5 +1,5 @@
 -- The normal form of a record, positions aside, and its chunks, read from what a file carries.
-use Rattle.std.specs.Prelude.{cond, ◌||◌, List, [], ◌∷◌, ℕ, ◌-◌, length, drop, Option, Some, None}
+use Rattle.std.specs.Prelude.{cond, ◌||◌, List, [], ◌∷◌, ℕ, ◌-◌, length, drop, get_or, Option, Some, None}
 use Rattle.octets.specs.BigEndian.{num}
 use Rattle.octets.specs.declared.Span.{Span}
 use Rattle.mini.specs.Blank.{blank_gain_map}
@@ -52,7 +52,7 @@ own_fields_in c =
     (record blank_gain_map {
       width = width_in (body_at 18 l);
       height = height_in (body_at 18 l);
-      matrix_coefficients = num 2 (body_at 20 l) 8;
+      matrix_coefficients = get_or (body_at 20 l) 9 0;
       full_range = range_in (body_at 20 l);
       chroma = chroma_in (body_at 19 l);
       format = format_in (body_at 19 l);

@@ -10,11 +10,11 @@ use octets::{copy_in, put, put_u8};
 
 const ISPE: FourCc = 0x69737065;
 
-const COLR: FourCc = 0x636F6C72;
+pub const COLR: FourCc = 0x636F6C72;
 
 const NCLX: FourCc = 0x6E636C78;
 
-const PROF: FourCc = 0x70726F66;
+pub const PROF: FourCc = 0x70726F66;
 
 const AUXC: FourCc = 0x61757843;
 

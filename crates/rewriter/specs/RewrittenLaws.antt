@@ -1,21 +1,19 @@
 -- Laws of rewriting. Assumes nothing.
 use Rattle.std.specs.Prelude.{◌≡◌, refl, Bool, true, false, cond, ◌⊎◌, List, ℕ, ◌≤◌, ◌<◌, eqb, ltb, length, take, drop}
-use Rattle.std.proofs.Common.{sym, ap, ◌∙◌, subst, true≢false, inl, inr, arith, drop_at, eq-eqb, ne_eqb, eqb-true, ltb-false}
+use Rattle.std.proofs.Common.{sym, ap, ◌∙◌, subst, true≢false, inl, inr, arith, eq-eqb, ne_eqb, eqb-true}
 use Rattle.std.proofs.lemmas.Bool.{eqb-false, false≢true}
 use Rattle.octets.specs.Overwrite.{overwrite}
-use Rattle.octets.specs.OverwriteLaws as octets-laws
-use Rattle.boxes.specs.Boxed.{boxed, box_header, length-box_header}
 use Rattle.mini.specs.Read.{read_mini}
 use Rattle.mini.specs.Refusals.{reading_at_most_nine}
 use Rattle.mini.proofs.RefusedBit.{bit_small}
 use Rattle.mini.proofs.RoundTrip.{read_writable, shortest}
 use Rattle.mini.proofs.RoundTrip as round_trip
 use Rattle.mini.proofs.WellPlaced.{read_placed}
-use Rattle.mini.specs.Write.{payload_of}
 use Rattle.mini.specs.declared.MinimizedImage.{MinimizedImage}
 use Rattle.writer.specs.Needed.{box_small}
 use Rattle.mini.specs.RecordHeader.{T_true}
 use Rattle.writer.specs.ToBox.{box_of, refused, written, answer, past_11}
+use Rattle.writer.specs.WrittenLaws.{payload_there}
 use Rattle.refusals.specs.Outcome.{Written}
 use Rattle.rewriter.specs.Rewritten.{rewritten, WrittenBack}
 
@@ -34,32 +32,11 @@ read_then_written p o z =
     read_is_written p o z
     ∙ sym (ap (λ (t : Bool). cond t (written (read_mini p).image p o) (refused (read_mini p).refusal (read_mini p).bit o)) (eq-eqb (read_mini p).refusal 0 z))
 
--- a success: the payload was accepted, and the output begins with the box
+-- a success: the payload was accepted
 success : (t : Bool) (n v : ℕ) (w : Written × List ℕ) (o : List ℕ) → (t ≡ false → n ≡ 0 → ⊥) → (cond t w (refused n v o)).0.refusal ≡ 0
     → (t ≡ true) × (cond t w (refused n v o) ≡ w)
 success true n v w o h e = (refl, refl)
 success false n v w o h e = absurd (h refl e)
-
-boxed_there : (i : MinimizedImage) (s o : List ℕ) → (written i s o).0.refusal ≡ 0
-    → take (written i s o).0.value (written i s o).1 ≡ box_of i s
-unfolding written
-boxed_there i s o e = go (ltb (length o) n) refl e
-  where
-    n : ℕ
-    n = length (box_of i s)
-
-    w : Written × List ℕ
-    w = (record { refusal = 0; value = n }, overwrite o 0 (box_of i s))
-
-    go : (t : Bool) → ltb (length o) n ≡ t → (cond t (refused 16 n o) w).0.refusal ≡ 0
-        → take (cond t (refused 16 n o) w).0.value (cond t (refused 16 n o) w).1 ≡ box_of i s
-    go true f z = absurd (omega arith)
-    go false f z = octets-laws.written o 0 (box_of i s) (omega (arith, ltb-false (length o) n f))
-
--- a box without its first eight bytes is its payload
-box-payload : (i : MinimizedImage) (s : List ℕ) → drop 8 (box_of i s) ≡ payload_of i s
-unfolding box_of boxed
-box-payload i s = drop_at (box_header 0x6D696E69 (length (payload_of i s))) (payload_of i s) 8 (length-box_header 0x6D696E69 (length (payload_of i s)))
 
 pub written_back : (p o : List ℕ) {w : Written} {o' : List ℕ} → ◌≡◌ {A = Written × List ℕ} (w, o') (rewritten p o) → w.refusal ≡ 0
     → WrittenBack p (drop 8 (take w.value o'))
@@ -71,11 +48,7 @@ written_back p o {w} {o'} e z =
     (ap (λ (x : Written × List ℕ). x.0.refusal) (sym e) ∙ z) in
     let took : r.refusal ≡ 0 = eqb-true r.refusal 0 k.0 in
     let is : ◌≡◌ {A = Written × List ℕ} (w, o') (written i p o) = e ∙ k.1 in
-    let q : drop 8 (take w.value o') ≡ payload_of i p =
-    ap (λ (x : Written × List ℕ). drop 8 (take x.0.value x.1)) is
-    ∙ ap (λ (x : List ℕ). drop 8 x) (boxed_there i p o (ap (λ (x : Written × List ℕ). x.0.refusal) (sym is) ∙ z))
-    ∙ box-payload i p in
-    subst (λ (x : List ℕ). WrittenBack p x) (sym q)
+    subst (λ (x : List ℕ). WrittenBack p x) (sym (payload_there i p o is z))
     (record { same = round_trip.written i p (read_placed p took) (read_writable p took); shortest = λ x b h. shortest x i p b h })
   where
     false-is : (t : Bool) → t ≡ false → t ≡ true → ⊥

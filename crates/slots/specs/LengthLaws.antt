@@ -1,5 +1,5 @@
 -- 'ipco', 'ipma' and 'iprp' are as long as the record alone says, where its chunks lie in the source.
-use Rattle.std.specs.Prelude.{◌≡◌, Bool, true, false, ◌||◌, List, [], ◌++◌, ℕ, zero, suc, ◌*◌, ltb, length, drop, replicate, Option, Some, None, is_some}
+use Rattle.std.specs.Prelude.{◌≡◌, Bool, true, false, ◌||◌, List, [], ◌++◌, ℕ, zero, suc, ◌+◌, ◌*◌, ltb, length, drop, replicate, Option, Some, None, is_some}
 use Rattle.std.specs.Bool.{then_some}
 use Rattle.std.proofs.Math.Path.{refl}
 use Rattle.std.proofs.Common.{◌∙◌, arith, ltb-false, length-drop, length-take-le}
@@ -158,11 +158,13 @@ module _ (i : MinimizedImage) (s : List ℕ) (o : Sound i s) where
       simp (slots-append, length-append, there_gain_map, there_tmap, h, u)
 
   -- ---- the boxes
+  pub length_slots : Bodies i.hdr_boxes → Bodies i.gain_map.tmap_hdr → length (slots_bytes (slots i s)) ≡ picture_len i + tone_map_len i
+  unfolding slots
+  length_slots b t = simp (slots-append, length-append, length_picture b, length_tone_map t)
+
   pub length_ipco : Bodies i.hdr_boxes → Bodies i.gain_map.tmap_hdr → length (ipco i s) ≡ ipco_len i
-  unfolding ipco slots
-  length_ipco b t =
-      length-boxed _ (slots_bytes (picture_slots i s ++ tone_map_slots i s))
-      ∙ simp (slots-append, length-append, length_picture b, length_tone_map t)
+  unfolding ipco
+  length_ipco b t = length-boxed _ (slots_bytes (slots i s)) ∙ rw (length_slots b t) refl
 
 length-row : (used : List Bool) (item : ℕ) (xs : List ℕ) → length (row used item xs) ≡ row_len used xs
 unfolding row
@@ -181,3 +183,6 @@ pub length-iprp : (i : MinimizedImage) (s : List ℕ) → Sound i s → Bodies i
 unfolding iprp
 length-iprp i s o b t =
     length-boxed _ (ipco i s ++ ipma i s) ∙ simp (length-append, length_ipco i s o b t, length-ipma i s)
+
+-- by which `grind` sees how long the body of 'iprp' is
+pub ruleset iprp_lengths = (length-append, length_ipco, length-ipma)

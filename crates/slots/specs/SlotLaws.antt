@@ -1,5 +1,5 @@
 -- Laws of the slots: how they are joined, how many there are, and which are used.
-use Rattle.std.specs.Prelude.{◌≡◌, refl, Bool, true, false, ◌&&◌, List, [], ◌∷◌, ◌++◌, map, ℕ, zero, suc, ◌+◌, length, replicate, Option, Some, None, is_some}
+use Rattle.std.specs.Prelude.{◌≡◌, refl, Bool, true, false, cond, ◌&&◌, List, [], ◌∷◌, ◌++◌, map, ℕ, zero, suc, ◌+◌, length, replicate, Option, Some, None, is_some}
 use Rattle.std.specs.Bool.{then_some}
 use Rattle.std.proofs.Common.{sym, ap, ◌∙◌, append-nil, append_assoc, add-zero, length-append}
 use Rattle.std.proofs.lemmas.List.{length-replicate}
@@ -10,7 +10,7 @@ use Rattle.mini.specs.declared.MinimizedImage.{MinimizedImage}
 use Rattle.properties.specs.declared.hdr_boxes.HdrBox.{HdrBox}
 use Rattle.slots.specs.Associations.{used_by}
 use Rattle.slots.specs.Used.{used_if, main_used, alpha_used, orientation_used, hdr_used, gain_map_used, tmap_used, used_slots}
-use Rattle.slots.specs.Slots.{Slot, none, is_used, free, slot_bytes, only_if, if_there, turn_slot, hdr_slot, main_slots, alpha_slots, orientation_slots, hdr_slots, gain_map_slots, tmap_slots, picture_slots, tone_map_slots, slots, slots_bytes}
+use Rattle.slots.specs.Slots.{Slot, none, is_used, free, slot_bytes, only_if, if_there, has_alpha_item, has_gain_map_item, turn_slot, hdr_slot, main_slots, alpha_slots, orientation_slots, hdr_slots, gain_map_slots, tmap_slots, picture_slots, tone_map_slots, slots, slots_bytes}
 
 -- ---- joined
 pub slots-append : (xs ys : List Slot) → slots_bytes (xs ++ ys) ≡ slots_bytes xs ++ slots_bytes ys
@@ -49,6 +49,28 @@ length_there false l = length-replicate (length l) none
 pub length-slots : (i : MinimizedImage) (s : List ℕ) → length (slots i s) ≡ 32
 unfolding slots picture_slots tone_map_slots main_slots alpha_slots orientation_slots hdr_slots gain_map_slots tmap_slots
 length-slots i s = simp (length-append, length_there)
+
+-- ---- as one list
+-- a slot that is unused where its item is missing
+abbrev pub gate : Bool → Slot → Slot
+gate there x = cond there x none
+
+there_is : (t : Bool) (l : List Slot) → if_there t l ≡ map (gate t) l
+there_is true [] = refl
+there_is true (x ∷ l) = ap (λ (m : List Slot). x ∷ m) (there_is true l)
+there_is false [] = refl
+there_is false (x ∷ l) = ap (λ (m : List Slot). none ∷ m) (there_is false l)
+
+-- whatever the record's flags are: slot k is found in it by computing
+abbrev pub flat_slots : MinimizedImage → List ℕ → List Slot
+flat_slots i s =
+    (main_slots i s ++ map (gate (has_alpha_item i)) (alpha_slots i s) ++ orientation_slots i ++ hdr_slots i.hdr_boxes)
+    ++ (map (gate (has_gain_map_item i)) (gain_map_slots i s) ++ map (gate i.has_gain_map) (tmap_slots i s)
+    ++ map (gate i.has_gain_map) (hdr_slots i.gain_map.tmap_hdr) ++ replicate 3 none)
+
+pub slots_flat : (i : MinimizedImage) (s : List ℕ) → slots i s ≡ flat_slots i s
+unfolding slots picture_slots tone_map_slots
+slots_flat i s = simp there_is
 
 -- ---- which are used
 pub used_only : (t : Bool) (box : List ℕ) → is_used (only_if t box) ≡ t

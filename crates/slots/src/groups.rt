@@ -17,7 +17,7 @@ use properties::orientation::turns_of;
 use properties::pixi::{put_alpha_pixi, put_pixi};
 use properties::property::{IMIR, IROT, put_auxc, put_ispe, put_nclx};
 
-const IPCO: FourCc = 0x6970636F;
+pub const IPCO: FourCc = 0x6970636F;
 
 // The slots 30 to 32 have no property.
 pub const UNUSED_AT_END: usize = 3;
@@ -36,7 +36,7 @@ pub fn has_gain_map_item(image: MinimizedImage) -> bool
 }
 
 // The type of the codec configurations' boxes.
-fn config_type(types: Option<CodecTypes>) -> FourCc
+pub fn config_type(types: Option<CodecTypes>) -> FourCc
     ensures { result ≡ config_type types }
 {
     types.map_or(0, |types| types.codec_config_type)

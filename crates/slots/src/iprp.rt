@@ -11,7 +11,7 @@ use crate::groups::put_ipco;
 use boxes::{FourCc, put_boxed};
 use mini::MinimizedImage;
 
-const IPRP: FourCc = 0x69707270;
+pub const IPRP: FourCc = 0x69707270;
 
 #[tactic(auto, using(crate::proofs::Laws::used_laws), unfolding(crate::specs::Associations::ipma))]
 fn iprp_body(out: &mut [u8], image: MinimizedImage, source: &[u8]) -> usize

@@ -182,11 +182,19 @@ fn ipma_body_len(image: MinimizedImage, used: UsedSlots) -> usize
 }
 
 #[tactic(auto, using(crate::proofs::Laws::ipma_bounds))]
-fn ipma_len(image: MinimizedImage) -> usize
+pub fn ipma_len(image: MinimizedImage) -> usize
     requires { Bounded image }
     ensures { (result ≡ ipma_len image) × (result ≤ 62) }
 {
     BOX_HEADER_LEN + ipma_body_len(image, used_slots(image))
+}
+
+// How long the 32 slots are, without the header of 'ipco'.
+pub fn ipco_body_len(image: MinimizedImage) -> usize
+    requires { Bounded image }
+    ensures { (result ≡ picture_len image + tone_map_len image) × (result ≤ 2110066) }
+{
+    picture_len(image) + tone_map_len(image)
 }
 
 // The length that `put_iprp` writes.
@@ -195,6 +203,5 @@ pub fn iprp_len(image: MinimizedImage) -> usize
     ensures value { result ≡ iprp_len image }
     ensures upper_bound { result ≤ 2110144 }
 {
-    let ipco_len = BOX_HEADER_LEN + picture_len(image) + tone_map_len(image);
-    BOX_HEADER_LEN + ipco_len + ipma_len(image)
+    BOX_HEADER_LEN + (BOX_HEADER_LEN + ipco_body_len(image)) + ipma_len(image)
 }

@@ -20,7 +20,7 @@ const FREE: FourCc = 0x66726565;
 pub const FREE_LEN: usize = 8;
 
 // The tone map's colour where it is not told.
-const SRGB: TmapCicp = TmapCicp {
+pub const SRGB: TmapCicp = TmapCicp {
     cicp: Cicp {
         primaries: 1,
         transfer: 13,

@@ -8,11 +8,12 @@ use record_header::header_of;
 use std::io;
 use writer::is_writable;
 
-// A record with every chunk, each of one byte, and a gain map of the main picture's size.
-fn full() -> Result<MinimizedImage, ReadError> {
-    parse(
-        b"\x05\xe0\x00\x00\x60\x00\x80\x00\x00\x00\x00\x02\x00\x04\x90\x00\x00\x00\x48\x00\x00\x00ABCDEFGHIJK",
-    )
+// The payload of a record with every chunk, each of one byte, and a gain map of the main picture's size.
+pub const FULL: &[u8] =
+    b"\x05\xe0\x00\x00\x60\x00\x80\x00\x00\x00\x00\x02\x00\x04\x90\x00\x00\x00\x48\x00\x00\x00ABCDEFGHIJK";
+
+pub fn full() -> Result<MinimizedImage, ReadError> {
+    parse(FULL)
 }
 
 // By `as`: no `From` leads from u32 to usize.

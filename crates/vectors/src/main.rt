@@ -1,8 +1,9 @@
-// Runs corner cases of boxes.rs and of writing, and prints what comes back.
+// Runs corner cases of boxes.rs, of writing and of going back to a mini, and prints what comes back.
 #![tactic(auto)]
 
 mod boxes_rs;
 mod limits;
+mod restoring;
 
 use std::io;
 
@@ -13,5 +14,8 @@ fn main(rt: HostRuntime) -> io::Result<()> {
     limits::dimensions(&rt)?;
     limits::metadata(&rt)?;
     limits::item_data(&rt)?;
-    limits::codec_configs(&rt)
+    limits::codec_configs(&rt)?;
+    restoring::not_carried(&rt)?;
+    restoring::gain_map_without_data(&rt)?;
+    restoring::empty_chunks(&rt)
 }

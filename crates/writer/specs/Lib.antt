@@ -3,3 +3,4 @@ pub mod Needed
 pub mod Outcome
 pub mod Place
 pub mod ToBox
+pub mod WrittenLaws

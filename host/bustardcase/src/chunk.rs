@@ -1,6 +1,7 @@
 //! Where a chunk lies.
 
-/// The place of a chunk: its position in the payload that was read, and its length.
+/// The place of a chunk: its position in the payload that was read, or in the file that a record was found in, and
+/// its length.
 ///
 /// ```
 /// let payload = [0, 0, 0, 0, 0, 0, 0, 0xAA, 0xFF];
@@ -11,18 +12,18 @@
 /// ```
 #[derive(Clone, Copy, Debug, Default, PartialEq, Eq, Hash)]
 pub struct Chunk {
-    /// The position of its first byte, counted from the payload's first.
+    /// The position of its first byte, counted from the first of payload or file.
     pub at: usize,
     /// How many bytes it has.
     pub len: usize,
 }
 
 impl Chunk {
-    /// The chunk's bytes, as a part of `payload`. A chunk that was not read from this payload may pass
-    /// its end: then it is the empty part at the payload's start.
-    pub fn of<'a>(&self, payload: &'a [u8]) -> &'a [u8] {
-        let part = self.end().and_then(|end| payload.get(self.at..end));
-        part.unwrap_or(&payload[..0])
+    /// The chunk's bytes, as a part of the payload or file. A chunk of another one may pass the end: then it
+    /// is the empty part at the start.
+    pub fn of<'a>(&self, source: &'a [u8]) -> &'a [u8] {
+        let part = self.end().and_then(|end| source.get(self.at..end));
+        part.unwrap_or(&source[..0])
     }
 
     /// The position after the last byte, if it can be counted.

@@ -1,8 +1,8 @@
-//! The record that a payload reads to.
+//! The record that a payload reads to, or that a file is the expansion of.
 
 use crate::answer::fixed;
 use crate::layout::Fields;
-use crate::{Chunk, FourCc, Refusal, raw};
+use crate::{Chunk, FileType, FourCc, Refusal, raw};
 
 /// How a picture's samples are coded.
 #[derive(Clone, Copy, Debug, PartialEq, Eq)]
@@ -123,7 +123,8 @@ pub struct MiniGainMap {
     pub data: Chunk,
 }
 
-/// The record that a payload reads to. A [`Chunk`] is a place in that payload.
+/// The record that a payload reads to, or that was found in an expanded file. A [`Chunk`] is a place in that
+/// payload or file.
 ///
 /// ```
 /// use bustardcase::SampleFormat;
@@ -190,11 +191,36 @@ pub struct MinimizedImage {
 /// # Ok::<(), bustardcase::Refusal>(())
 /// ```
 pub fn read(payload: &[u8]) -> Result<MinimizedImage, Refusal> {
-    let layout: [u8; 441] = fixed(|out| raw::read(payload, out))?;
+    fixed(|out| raw::read(payload, out)).map(of_layout)
+}
+
+/// The record, with explicit codec types, that expands to exactly this file under the original file's type: of
+/// several, one whose payload is as short as that of any. Its chunks are places in the file, an empty one at 0.
+/// Refusals 15 and 17.
+///
+/// ```
+/// use bustardcase::{FileType, Refusal, expand, find_mini};
+///
+/// let payload = b"\x20\0\0\0av01av1C\0\0\0\xAA";
+/// let file = expand(payload, &FileType::default())?;
+/// let image = find_mini(&file, &FileType::default())?;
+/// assert_eq!((image.width, image.main_data.at), (1, 483));
+/// assert_eq!(image.main_data.of(&file), [0xAA]);
+///
+/// let cut = &file[..483];
+/// assert_eq!(find_mini(cut, &FileType::default()), Err(Refusal::NotAnExpansion));
+/// # Ok::<(), Refusal>(())
+/// ```
+pub fn find_mini(file: &[u8], original: &FileType) -> Result<MinimizedImage, Refusal> {
+    let (major, minor, brands) = original.parts();
+    fixed(|out| raw::find_mini(file, major, minor, &brands, out)).map(of_layout)
+}
+
+fn of_layout(layout: [u8; 441]) -> MinimizedImage {
     let mut fields = Fields::new(&layout);
     let image = image(&mut fields);
     fields.finish();
-    Ok(image)
+    image
 }
 
 // The fields of a struct are given in the order of the layout: that is the order in which they are

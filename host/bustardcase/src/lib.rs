@@ -1,10 +1,12 @@
 //! The low-overhead image format (ISO/IEC 23008-12 Amd 2, Annex O: the MinimizedImageBox, `mini`):
-//! reading a payload, writing it back in its shortest form, expanding it to the equivalent HEIF file.
+//! reading a payload, writing it back in its shortest form, expanding it to the equivalent HEIF file, and
+//! making it again of such a file.
 //!
 //! Every answer comes from a static library whose functions are proved to equal short definitions,
 //! for every input. This crate makes typed values of the library's bytes and knows nothing of the
 //! format beside the layouts of docs/ABI.md, and, in [`differences`], which fields of a record an
-//! expanded file carries. It is not proved itself.
+//! expanded file carries; in [`FileType::to_box`] and [`usual_file_types`], what an 'ftyp' box is and
+//! what expanding makes of it. It is not proved itself.
 //!
 //! ```
 //! // The smallest payload there is: 1 by 1, one byte of main data.
@@ -54,12 +56,12 @@ pub use check::{Check, check};
 pub use chunk::Chunk;
 pub use diagnosis::{Diagnosis, Place, diagnose};
 pub use differences::{Difference, differences};
-pub use file_type::{FileType, expanded_file_type, file_type};
+pub use file_type::{FileType, expanded_file_type, file_type, usual_file_types};
 pub use four_cc::{FourCc, NotFourCharacters};
 pub use image::{
     Cicp, CodecTypes, MiniChroma, MiniGainMap, MiniHdrBoxes, MinimizedImage, SampleFormat,
-    TmapCicp, read,
+    TmapCicp, find_mini, read,
 };
 pub use outline::{ChunkKind, HeaderPart, Outline, PartKind, PlacedChunk, outline};
 pub use refusal::Refusal;
-pub use writing::{expand, rewrite};
+pub use writing::{expand, restore, rewrite};

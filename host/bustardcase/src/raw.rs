@@ -77,6 +77,28 @@ mod c {
             out: *mut u8,
             out_len: usize,
         ) -> u64;
+
+        pub fn bustardcase_find_mini(
+            file: *const u8,
+            file_len: usize,
+            major: u32,
+            minor: u32,
+            brands: *const u8,
+            brands_len: usize,
+            out: *mut u8,
+            out_len: usize,
+        ) -> u64;
+
+        pub fn bustardcase_restore(
+            file: *const u8,
+            file_len: usize,
+            major: u32,
+            minor: u32,
+            brands: *const u8,
+            brands_len: usize,
+            out: *mut u8,
+            out_len: usize,
+        ) -> u64;
     }
 }
 
@@ -145,6 +167,40 @@ pub fn expand(payload: &[u8], major: u32, minor: u32, brands: &[u8], out: &mut [
         c::bustardcase_expand(
             payload.as_ptr(),
             payload.len(),
+            major,
+            minor,
+            brands.as_ptr(),
+            brands.len(),
+            out.as_mut_ptr(),
+            out.len(),
+        )
+    }
+}
+
+/// The record that expands to `file`, as 441 bytes.
+pub fn find_mini(file: &[u8], major: u32, minor: u32, brands: &[u8], out: &mut [u8]) -> u64 {
+    // SAFETY: as in `box_header`.
+    unsafe {
+        c::bustardcase_find_mini(
+            file.as_ptr(),
+            file.len(),
+            major,
+            minor,
+            brands.as_ptr(),
+            brands.len(),
+            out.as_mut_ptr(),
+            out.len(),
+        )
+    }
+}
+
+/// The box that the record which expands to `file` is written as.
+pub fn restore(file: &[u8], major: u32, minor: u32, brands: &[u8], out: &mut [u8]) -> u64 {
+    // SAFETY: as in `box_header`.
+    unsafe {
+        c::bustardcase_restore(
+            file.as_ptr(),
+            file.len(),
             major,
             minor,
             brands.as_ptr(),

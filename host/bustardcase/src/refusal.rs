@@ -66,10 +66,12 @@ pub enum Refusal {
     UuidCodecType,
     /// 14: there are no explicit codec types.
     NoCodecTypes,
-    /// 15: the brands given to expand under aren't a multiple of 4 bytes, or are over 4,096 bytes.
+    /// 15: the brands of the original file type aren't a multiple of 4 bytes, or are over 4,096 bytes.
     Brands,
     /// 16: the output is shorter than the result. Only the functions of [`raw`](crate::raw) give it.
     ShortOutput,
+    /// 17: no record with explicit codec types expands to the file under the original file type.
+    NotAnExpansion,
     /// 28: the payload of an 'ftyp' box is no original file type. It has fewer than 8 bytes, or its
     /// brands aren't a multiple of 4 bytes or are over 4,096 bytes.
     NotAFileType,
@@ -80,7 +82,7 @@ pub enum Refusal {
 pub const SHORT_OUTPUT: Refusal = Refusal::ShortOutput;
 
 /// Every refusal at bit 0, with its number and its condition.
-const KNOWN: [(u32, Refusal, &str); 17] = [
+const KNOWN: [(u32, Refusal, &str); 18] = [
     (
         1,
         Refusal::BoxHeaderCut,
@@ -152,6 +154,11 @@ const KNOWN: [(u32, Refusal, &str); 17] = [
         16,
         Refusal::ShortOutput,
         "the output is shorter than the result",
+    ),
+    (
+        17,
+        Refusal::NotAnExpansion,
+        "no mini with explicit codec types expands to this file under this original file type",
     ),
     (
         28,
@@ -238,12 +245,12 @@ mod tests {
     #[test]
     fn numbers_and_refusals_agree() {
         assert_eq!(Refusal::new(0, 0), None);
-        for number in (1..=16).chain([28]) {
+        for number in (1..=17).chain([28]) {
             let refusal = Refusal::new(number, 504).expect("not 0");
             assert_eq!(refusal.number(), number);
             assert!(!matches!(refusal, Refusal::Unknown(_)));
         }
-        for number in [17, 18, 27, 29, 65_535] {
+        for number in [18, 27, 29, 65_535] {
             let refusal = Refusal::new(number, 0).expect("not 0");
             assert_eq!(refusal, Refusal::Unknown(number));
             assert_eq!(refusal.number(), number);
@@ -254,7 +261,7 @@ mod tests {
 
     #[test]
     fn the_refusals_of_reading_have_a_bit() {
-        for number in (1..=17).chain([28]) {
+        for number in (1..=18).chain([28]) {
             let refusal = Refusal::new(number, 1 << 33).expect("not 0");
             let bit = (5..=9).contains(&number).then_some(1 << 33);
             assert_eq!(refusal.bit(), bit, "refusal {number}");

@@ -1,4 +1,4 @@
-//! Payloads written back, and expanded.
+//! Payloads written back, expanded, and made of what they expanded to.
 
 use crate::answer::sized;
 use crate::{FileType, Refusal, raw};
@@ -34,8 +34,26 @@ pub fn rewrite(payload: &[u8]) -> Result<Vec<u8>, Refusal> {
 /// # Ok::<(), Refusal>(())
 /// ```
 pub fn expand(payload: &[u8], original: &FileType) -> Result<Vec<u8>, Refusal> {
-    let major = original.major_brand.number();
-    let minor = original.minor_version;
-    let brands = original.brand_bytes();
+    let (major, minor, brands) = original.parts();
     sized(|out| raw::expand(payload, major, minor, &brands, out))
+}
+
+/// The box of type `mini` that holds the record of [`find_mini`](crate::find_mini) in its shortest form, header
+/// included. Refusals 15 and 17. The payload of the box expands to exactly this file under the same file type,
+/// and none that does is shorter. The original file is [`FileType::to_box`] and this box.
+///
+/// ```
+/// use bustardcase::{FileType, expand, find_box, restore};
+///
+/// let payload = b"\x20\0\0\0av01av1C\0\0\0\xAA";
+/// let original = FileType::default();
+/// let file = expand(payload, &original)?;
+/// let boxed = restore(&file, &original)?;
+/// let found = find_box(&boxed, b"mini".into())?.payload(&boxed);
+/// assert_eq!(expand(found, &original)?, file);
+/// # Ok::<(), bustardcase::Refusal>(())
+/// ```
+pub fn restore(file: &[u8], original: &FileType) -> Result<Vec<u8>, Refusal> {
+    let (major, minor, brands) = original.parts();
+    sized(|out| raw::restore(file, major, minor, &brands, out))
 }

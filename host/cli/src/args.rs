@@ -28,6 +28,12 @@ pub enum Request {
         output: OsString,
         changes: Changes,
     },
+    Restore {
+        input: OsString,
+        output: OsString,
+        changes: Changes,
+        json: bool,
+    },
     Same {
         a: OsString,
         b: OsString,
@@ -45,6 +51,11 @@ pub struct Changes {
 }
 
 impl Changes {
+    /// Whether all is said.
+    pub fn all(&self) -> bool {
+        self.major.is_some() && self.minor.is_some() && self.brands.is_some()
+    }
+
     /// The original file type of a file whose own is this one, if it has one.
     pub fn of(&self, own: Option<&FileType>) -> FileType {
         let own = own.cloned().unwrap_or_default();
@@ -64,7 +75,7 @@ struct Command {
     options: &'static [&'static str],
 }
 
-const COMMANDS: [Command; 6] = [
+const COMMANDS: [Command; 7] = [
     Command {
         name: "show",
         help: help::SHOW,
@@ -94,6 +105,12 @@ const COMMANDS: [Command; 6] = [
         help: help::EXPAND,
         files: &["IN", "OUT"],
         options: &[MAJOR, MINOR, BRANDS],
+    },
+    Command {
+        name: "restore",
+        help: help::RESTORE,
+        files: &["IN", "OUT"],
+        options: &[JSON, MAJOR, MINOR, BRANDS],
     },
     Command {
         name: "same",
@@ -134,7 +151,7 @@ fn help_on(rest: &[OsString]) -> Result<Request, Failure> {
 }
 
 /// A message and the command that helps on.
-fn usage(message: &str, command: &str) -> Failure {
+pub fn usage(message: &str, command: &str) -> Failure {
     let space = if command.is_empty() { "" } else { " " };
     Failure::Usage(format!(
         "{message}; see 'bustardcase{space}{command} --help'"
@@ -151,6 +168,25 @@ pub fn shown(name: &OsStr) -> String {
         }
     }
     text
+}
+
+/// A code as it is shown: `\\` stands for a backslash, and `\xNN` for any byte.
+fn escaped(text: &str) -> Option<FourCc> {
+    let digit = |c: u8| char::from(c).to_digit(16);
+    let mut code = FourCc([0; 4]);
+    let mut rest = text.as_bytes();
+    for byte in &mut code.0 {
+        (*byte, rest) = match rest {
+            [b'\\', b'\\', rest @ ..] => (b'\\', rest),
+            [b'\\', b'x', high, low, rest @ ..] => {
+                let number = 16 * digit(*high)? + digit(*low)?;
+                (number.try_into().ok()?, rest)
+            }
+            [c @ b' '..=b'~', rest @ ..] if *c != b'\\' => (*c, rest),
+            _ => return None,
+        };
+    }
+    rest.is_empty().then_some(code)
 }
 
 /// The files and options of a command.
@@ -177,6 +213,11 @@ impl Command {
         if self.name == "same" && given.files.iter().all(|file| file == "-") {
             return Err(self.usage("A and B cannot both be the standard input"));
         }
+        if self.name == "restore" && given.files[1] == "-" && given.value(JSON).is_some() {
+            return Err(
+                self.usage("OUT and what '--json' prints cannot both be the standard output")
+            );
+        }
         self.make(given)
     }
 
@@ -197,6 +238,12 @@ impl Command {
                 input: file(),
                 output: file(),
                 changes,
+            },
+            "restore" => Request::Restore {
+                input: file(),
+                output: file(),
+                changes,
+                json,
             },
             _ => Request::Same {
                 a: file(),
@@ -263,7 +310,7 @@ impl Command {
         let brand = |text: &str| self.brand(text);
         Ok(Changes {
             major: given.value(MAJOR).map(brand).transpose()?,
-            minor: given.value(MINOR).map(|m| self.number(m)).transpose()?,
+            minor: given.value(MINOR).map(|m| self.minor(m)).transpose()?,
             brands: match given.value(BRANDS) {
                 None => None,
                 Some("") => Some(Vec::new()),
@@ -273,14 +320,20 @@ impl Command {
     }
 
     fn brand(&self, text: &str) -> Result<FourCc, Failure> {
-        text.parse().map_err(|_| {
+        let brand = text.parse().ok().or_else(|| escaped(text));
+        brand.ok_or_else(|| {
             let text = shown(OsStr::new(text));
             self.usage(&format!("'{text}' is no brand of four characters"))
         })
     }
 
-    /// A number of 32 bits, decimal, or hexadecimal after `0x`.
-    fn number(&self, text: &str) -> Result<u32, Failure> {
+    /// A number of 32 bits, decimal, or hexadecimal after `0x`; or a brand that begins with a letter.
+    fn minor(&self, text: &str) -> Result<u32, Failure> {
+        if text.starts_with(char::is_alphabetic)
+            && let Ok(brand) = text.parse::<FourCc>()
+        {
+            return Ok(brand.number());
+        }
         let number = match text.strip_prefix("0x") {
             Some(digits) if digits.starts_with(|c: char| c.is_ascii_hexdigit()) => {
                 u32::from_str_radix(digits, 16).ok()

@@ -22,6 +22,8 @@ pub enum Failure {
         refusal: Refusal,
         /// Where reading the payload broke off, if it did.
         broken: Option<Box<Broken>>,
+        /// What may help.
+        hint: Option<String>,
     },
     /// Why a question whose no has the status of a refusal has no answer.
     Unanswered(Box<Failure>),
@@ -58,10 +60,14 @@ impl fmt::Display for Failure {
                 what,
                 refusal,
                 broken,
+                hint,
             } => {
                 write!(f, "{name}: {what}{refusal}")?;
-                match broken {
-                    Some(broken) => write!(f, ": {broken}"),
+                if let Some(broken) = broken {
+                    write!(f, ": {broken}")?;
+                }
+                match hint {
+                    Some(hint) => write!(f, "; {hint}"),
                     None => Ok(()),
                 }
             }

@@ -11,15 +11,16 @@ usage: bustardcase COMMAND ..
   check FILE       the desk check: does the display take the picture as it is?
   shrink IN OUT    writes the shortest form that reads the same
   expand IN OUT    writes the equivalent HEIF file
+  restore IN OUT   writes the original file of an expanded one
   same A B         do two pictures expand to one file? In what do they differ?
 
-  --json           (show, check, same) prints JSON
+  --json           (show, check, restore, same) prints JSON
   --help           prints this; after a command, what the command does
   --version        prints the version
 
 FILE, IN, A and B are a file with an 'ftyp' and a 'mini' box, or the bare
 payload of a 'mini' box; '-' is the standard input. A 'mini' box alone is taken
-too. OUT '-' is the standard output.
+too. OUT '-' is the standard output. The IN of 'restore' is an expanded file.
 
 A picture that cannot be read or written gets one line on the standard error:
 the number of the refusal and its meaning, and for a payload that cannot be read
@@ -137,12 +138,53 @@ The new file's type follows from the original one, which for a file is its own.
 For a bare payload it has major brand mif3, minor version 0 and one compatible
 brand, mif3. Each option takes the place of one part of it:
 
---major M      the major brand, four characters
---minor N      the minor version, a number; 0x begins hexadecimal digits
+--major M      the major brand, four characters; \\xNN stands for any byte
+--minor N      the minor version: a number, hexadecimal after 0x, or four
+               characters of which the first is a letter, as avif
 --brands A,B   the compatible brands, of four characters each, at most 1,024;
-               '' is none
+               '' is none, and \\x2c a comma in a brand
 
 OUT is written beside and renamed: on a failure it is as it was before.
+
+exit status:  0 written, 1 refused, 2 wrong usage or a file that cannot be read
+              or written
+";
+
+pub const RESTORE: &str = "\
+usage: bustardcase restore [--json] IN OUT [--major M] [--minor N]
+                           [--brands A,B]
+
+Writes the original file of an expanded one, for archives whose originals are
+gone: an 'ftyp' and a 'mini' box. Expanding OUT gives IN again, byte for byte,
+and no 'mini' box that does is shorter. A file that none expands to, such as one
+that other software made, is refused with 17.
+
+IN     a file that 'expand' wrote; '-' is the standard input
+OUT    the original file, not IN; '-' is the standard output
+
+IN tells the type of the original file only in part. Tried in turn are major
+brand mif3 with the minor version that gives the major brand of IN, such as
+avif or heic, 0 for mif3, vvi3 too for vvic; and the brands that IN lists, less
+up to three at the end, which 'expand' may have added, lists with mif3 first;
+last the major brand of IN with minor version 0 and all of its brands. The first
+type that fits is taken. It is printed on the standard error, and so are the
+others that fit, as the options that give them. Where none fits, no file type
+does. Each option takes the place of one part; beside another major brand than
+mif3 the minor version makes no difference, and 0 is taken; where all three are
+given, nothing is tried or printed:
+
+--major M      the major brand, four characters; \\xNN stands for any byte
+--minor N      the minor version: a number, hexadecimal after 0x, or four
+               characters of which the first is a letter, as avif
+--brands A,B   the compatible brands, of four characters each, at most 1,024;
+               '' is none, and \\x2c a comma in a brand
+
+OUT is written beside and renamed: on a failure it is as it was before.
+
+--json prints one JSON object, before OUT is written: 'file_type', the one
+taken, and 'others', a list of those that fit too. A refused file gives an
+object with the one name 'refusal': its 'number' and 'meaning', and 'fitting', a
+list of the types that fit without the options.
 
 exit status:  0 written, 1 refused, 2 wrong usage or a file that cannot be read
               or written
@@ -169,10 +211,11 @@ Each is expanded under its own file type. For a bare payload that has major
 brand mif3, minor version 0 and one compatible brand, mif3. Each option takes
 the place of one part of it, in both; all three give both one type:
 
---major M      the major brand, four characters
---minor N      the minor version, a number; 0x begins hexadecimal digits
+--major M      the major brand, four characters; \\xNN stands for any byte
+--minor N      the minor version: a number, hexadecimal after 0x, or four
+               characters of which the first is a letter, as avif
 --brands X,Y   the compatible brands, of four characters each, at most 1,024;
-               '' is none
+               '' is none, and \\x2c a comma in a brand
 
 If A and B have different types, those of the expanded files may differ too, and
 are then printed as 'file_type'. The answer is no. Where the files would be

@@ -28,11 +28,7 @@ pub struct File {
 
 impl Input {
     pub fn open(name: &OsStr) -> Result<Self, Failure> {
-        let (name, bytes) = match name == "-" {
-            true => ("standard input".to_string(), standard_input()),
-            false => (shown(name), fs::read(name)),
-        };
-        let bytes = bytes.map_err(|e| Failure::io(&name, e))?;
+        let (name, bytes) = read(name)?;
         let file = match is_file(&bytes) {
             true => Some(find(&name, &bytes)?),
             false => None,
@@ -73,6 +69,7 @@ impl Input {
                 what: "",
                 refusal,
                 broken: broken.map(Box::new),
+                hint: None,
             }
         })
     }
@@ -81,6 +78,16 @@ impl Input {
     pub fn broken(&self) -> Option<Broken> {
         Broken::of(self.payload(), self.start_in_file())
     }
+}
+
+/// What messages call a file, and its bytes.
+pub fn read(name: &OsStr) -> Result<(String, Vec<u8>), Failure> {
+    let (name, bytes) = match name == "-" {
+        true => ("standard input".to_string(), standard_input()),
+        false => (shown(name), fs::read(name)),
+    };
+    let bytes = bytes.map_err(|e| Failure::io(&name, e))?;
+    Ok((name, bytes))
 }
 
 fn standard_input() -> io::Result<Vec<u8>> {
@@ -115,5 +122,6 @@ fn refused(name: &str, what: &'static str, refusal: Refusal) -> Failure {
         what,
         refusal,
         broken: None,
+        hint: None,
     }
 }

@@ -14,11 +14,14 @@ pub fn text(group: &Group) -> String {
 
 /// A refused picture says so on the standard output as well.
 pub fn told<T>(answer: Result<T, Failure>) -> Result<T, Failure> {
-    told_with(answer, Vec::new())
+    told_with(answer, Vec::new)
 }
 
 /// The same, with more names after those of the refusal.
-pub fn told_with<T>(answer: Result<T, Failure>, more: Group) -> Result<T, Failure> {
+pub fn told_with<T>(
+    answer: Result<T, Failure>,
+    more: impl FnOnce() -> Group,
+) -> Result<T, Failure> {
     if let Err(Failure::Refused {
         refusal, broken, ..
     }) = &answer
@@ -28,7 +31,7 @@ pub fn told_with<T>(answer: Result<T, Failure>, more: Group) -> Result<T, Failur
             ("meaning", Value::Word(refusal.meaning())),
         ];
         words.extend(broken.iter().flat_map(|broken| broken.named()));
-        words.extend(more);
+        words.extend(more());
         output::print(&text(&vec![("refusal", Value::Group(words))]))?;
     }
     answer

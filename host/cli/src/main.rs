@@ -15,6 +15,7 @@ mod json;
 mod output;
 mod record;
 mod refused;
+mod restore;
 mod rows;
 mod same;
 mod show;
@@ -56,6 +57,12 @@ fn run(request: Request) -> Result<bool, Failure> {
             output,
             changes,
         } => writing::expand(&input, &output, &changes)?,
+        Request::Restore {
+            input,
+            output,
+            changes,
+            json,
+        } => restore::run(&input, &output, &changes, json)?,
         Request::Same {
             a,
             b,

@@ -5,6 +5,7 @@ use crate::failure::Failure;
 use std::ffi::OsStr;
 use std::fs::{self, File, Permissions};
 use std::io::{self, ErrorKind, Write};
+use std::os::unix::fs::MetadataExt;
 use std::path::{Path, PathBuf};
 
 pub fn print(text: &str) -> Result<(), Failure> {
@@ -18,6 +19,24 @@ fn print_bytes(bytes: &[u8]) -> Result<(), Failure> {
         Err(e) if e.kind() != ErrorKind::BrokenPipe => Err(Failure::io("standard output", e)),
         _ => Ok(()),
     }
+}
+
+/// Lines to the standard error. Where there is none, nothing is lost that the file would have.
+pub fn note(text: &str) {
+    let _ = io::stderr().write_all(text.as_bytes());
+}
+
+/// Whether what is read under one name is the file that is written under the other.
+pub fn is_one_file(input: &OsStr, output: &OsStr) -> bool {
+    let input = file(input, "/dev/stdin");
+    input.is_some() && input == file(output, "/dev/stdout")
+}
+
+/// Which file a name leads to. A pipe and a terminal, which may be both standard input and output, are none.
+fn file(name: &OsStr, standard: &str) -> Option<(u64, u64)> {
+    let name = if name == "-" { standard.as_ref() } else { name };
+    let there = fs::metadata(name).ok()?;
+    there.is_file().then(|| (there.dev(), there.ino()))
 }
 
 /// All of the bytes come to stand under the name, or it stays as it was.

@@ -32,7 +32,7 @@ fn side(
 ) -> Result<Side, Failure> {
     let side = Side::open(name, changes);
     let side = match as_json {
-        true => json::told_with(side, vec![("file", Value::Word(which))]),
+        true => json::told_with(side, || vec![("file", Value::Word(which))]),
         false => side,
     };
     side.map_err(Failure::unanswered)

@@ -14,6 +14,7 @@ mod outline;
 mod promises;
 mod read;
 mod report;
+mod restore;
 mod rewrite;
 mod same;
 mod typed;
@@ -52,6 +53,7 @@ const JOBS: &[Job] = &[
         run: read::first_bits,
     },
     job("expand", expand::compare),
+    job("restore", restore::compare),
     job("read", read::compare),
     job("same", same::compare),
     job("outline", outline::compare),

@@ -80,24 +80,12 @@ pub fn compare(report: &mut Report) -> Result<(), String> {
     run.check_cover(report)
 }
 
-/// The listed file types that are not refused.
-fn allowed_types() -> Vec<OriginalType> {
-    let mut types = expanding::listed_types();
-    types.retain(is_allowed);
-    types
-}
-
-fn is_allowed(original: &OriginalType) -> bool {
-    let len = original.brands.len();
-    len.is_multiple_of(4) && len <= 4_096
-}
-
 impl Run {
     fn new() -> Self {
         Run {
             checker: Checker::new(|at| format!("byte {at} of the file")),
             random: Random::new(SEED),
-            types: allowed_types(),
+            types: expanding::allowed_types(),
             pairs: 0,
             equal: 0,
             decided: Default::default(),
@@ -169,24 +157,8 @@ impl Run {
         Ok(())
     }
 
-    /// Of any number of brands that is allowed, mostly few.
     fn random_type(&mut self) -> OriginalType {
-        if self.random.once_in(8) {
-            let i = self.random.below(self.types.len() as u64);
-            return self.types[i as usize].clone();
-        }
-        loop {
-            let mut original = expanding::random_type(&mut self.random);
-            if self.random.once_in(32) {
-                let count = self.random.below(1_024 - 8) as usize;
-                original
-                    .brands
-                    .extend(records::random_bytes(&mut self.random, 4 * count));
-            }
-            if is_allowed(&original) {
-                return original;
-            }
-        }
+        expanding::random_allowed_type(&mut self.random, &self.types)
     }
 
     /// The record must be what a payload reads to. Both files of it must be equal.

@@ -5,6 +5,7 @@ use crate::payloads;
 use crate::plan::Plan;
 use crate::random::Random;
 use crate::reading::Reading;
+use crate::records::random_bytes;
 use upstream::error::HeifError;
 use upstream::ftyp::FileType;
 use upstream::mini::MinimizedImage;
@@ -24,6 +25,11 @@ const fn code(name: &[u8; 4]) -> u32 {
 pub const MIF3: u32 = code(b"mif3");
 
 impl OriginalType {
+    /// Whether the brand list is whole and not too long: else 15.
+    pub fn is_allowed(&self) -> bool {
+        self.brands.len().is_multiple_of(4) && self.brands.len() <= 4_096
+    }
+
     /// Whether the brand is one of the list.
     pub fn lists(&self, brand: &[u8; 4]) -> bool {
         self.brands.chunks(4).any(|b| b == brand)
@@ -46,7 +52,6 @@ pub fn answer(reading: &Reading, original: &OriginalType) -> Result<Answer, Stri
 /// 12 to 15 as document 01 orders them, or the file. Inferred codec types are outside the domain: they
 /// are refused (14), whatever the Rust does.
 pub fn of_record(image: &MinimizedImage, original: &OriginalType) -> Result<Answer, String> {
-    let allowed = original.brands.len().is_multiple_of(4) && original.brands.len() <= 4096;
     let whole = original.brands.len() / 4 * 4;
     let brands = original.brands[..whole]
         .chunks(4)
@@ -69,7 +74,7 @@ pub fn of_record(image: &MinimizedImage, original: &OriginalType) -> Result<Answ
             }
         }
         Ok(_) if inferred => Ok(Answer::refused(14)),
-        Ok(_) if !allowed => Ok(Answer::refused(15)),
+        Ok(_) if !original.is_allowed() => Ok(Answer::refused(15)),
         Ok(file) => Ok(Answer::Done(file)),
     }
 }
@@ -126,6 +131,31 @@ pub fn listed_types() -> Vec<OriginalType> {
         }
     }
     types
+}
+
+/// The listed file types that are not refused.
+pub fn allowed_types() -> Vec<OriginalType> {
+    let mut types = listed_types();
+    types.retain(OriginalType::is_allowed);
+    types
+}
+
+/// Of any number of brands that is allowed, mostly few: at times one of those listed.
+pub fn random_allowed_type(r: &mut Random, listed: &[OriginalType]) -> OriginalType {
+    if r.once_in(8) {
+        let i = r.below(listed.len() as u64);
+        return listed[i as usize].clone();
+    }
+    loop {
+        let mut original = random_type(r);
+        if r.once_in(32) {
+            let count = r.below(1_024 - 8) as usize;
+            original.brands.extend(random_bytes(r, 4 * count));
+        }
+        if original.is_allowed() {
+            return original;
+        }
+    }
 }
 
 /// A file type of up to eight brands, mostly known ones.

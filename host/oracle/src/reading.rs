@@ -136,17 +136,17 @@ fn lacks_field(payload: &[u8], len: usize) -> Result<bool, String> {
 }
 
 // The places of the chunks in stored order.
-const MAIN_CONFIG: usize = 0;
-const ALPHA_CONFIG: usize = 1;
-const GAIN_MAP_CONFIG: usize = 2;
-const ICC: usize = 3;
-const TMAP_ICC: usize = 4;
-const GAIN_MAP_METADATA: usize = 5;
-const ALPHA_DATA: usize = 6;
-const GAIN_MAP_DATA: usize = 7;
-const MAIN_DATA: usize = 8;
-const EXIF: usize = 9;
-const XMP: usize = 10;
+pub const MAIN_CONFIG: usize = 0;
+pub const ALPHA_CONFIG: usize = 1;
+pub const GAIN_MAP_CONFIG: usize = 2;
+pub const ICC: usize = 3;
+pub const TMAP_ICC: usize = 4;
+pub const GAIN_MAP_METADATA: usize = 5;
+pub const ALPHA_DATA: usize = 6;
+pub const GAIN_MAP_DATA: usize = 7;
+pub const MAIN_DATA: usize = 8;
+pub const EXIF: usize = 9;
+pub const XMP: usize = 10;
 
 /// The chunks in stored order. Of an absent gain map there is none.
 pub fn stored(image: &MinimizedImage) -> [Option<&[u8]>; 11] {
@@ -172,38 +172,7 @@ pub type Spans = [Option<(usize, usize)>; 11];
 impl Accepted {
     /// The record's layout. Every chunk must stand in the payload where its turn comes.
     fn layout(&self, payload: &[u8]) -> Result<Vec<u8>, String> {
-        let spans = self.spans(payload)?;
-        let image = &self.image;
-        let mut out = Vec::with_capacity(RECORD_LEN);
-        put_types(&mut out, image);
-        put_format(&mut out, image.format);
-        out.push(image.full_range as u8);
-        put_chroma(&mut out, image.chroma);
-        out.push(image.orientation);
-        out.extend(image.width.to_be_bytes());
-        out.extend(image.height.to_be_bytes());
-        let (primaries, transfer, matrix) = image.explicit_cicp.unwrap_or_default();
-        out.push(image.explicit_cicp.is_some() as u8);
-        out.extend([primaries, transfer, matrix]);
-        put_chunk(&mut out, spans[ICC]);
-        out.push(image.alpha as u8);
-        out.push(image.alpha_premultiplied as u8);
-        out.push(image.hdr as u8);
-        put_hdr(&mut out, &image.hdr_boxes);
-        out.push(image.gain_map.is_some() as u8);
-        match &image.gain_map {
-            Some(gain_map) => put_gain_map(&mut out, gain_map, &spans),
-            None => out.resize(out.len() + 189, 0),
-        }
-        put_span(&mut out, spans[MAIN_CONFIG]);
-        put_span(&mut out, spans[MAIN_DATA]);
-        put_chunk(&mut out, spans[ALPHA_CONFIG]);
-        put_span(&mut out, spans[ALPHA_DATA]);
-        out.push(image.exif_xmp_compressed as u8);
-        put_chunk(&mut out, spans[EXIF]);
-        put_chunk(&mut out, spans[XMP]);
-        assert_eq!(out.len(), RECORD_LEN);
-        Ok(out)
+        Ok(layout(&self.image, &self.spans(payload)?))
     }
 
     /// Where the chunks lie, in stored order.
@@ -220,6 +189,40 @@ impl Accepted {
         }
         Ok(spans)
     }
+}
+
+/// The record's layout.
+pub fn layout(image: &MinimizedImage, spans: &Spans) -> Vec<u8> {
+    let mut out = Vec::with_capacity(RECORD_LEN);
+    put_types(&mut out, image);
+    put_format(&mut out, image.format);
+    out.push(image.full_range as u8);
+    put_chroma(&mut out, image.chroma);
+    out.push(image.orientation);
+    out.extend(image.width.to_be_bytes());
+    out.extend(image.height.to_be_bytes());
+    let (primaries, transfer, matrix) = image.explicit_cicp.unwrap_or_default();
+    out.push(image.explicit_cicp.is_some() as u8);
+    out.extend([primaries, transfer, matrix]);
+    put_chunk(&mut out, spans[ICC]);
+    out.push(image.alpha as u8);
+    out.push(image.alpha_premultiplied as u8);
+    out.push(image.hdr as u8);
+    put_hdr(&mut out, &image.hdr_boxes);
+    out.push(image.gain_map.is_some() as u8);
+    match &image.gain_map {
+        Some(gain_map) => put_gain_map(&mut out, gain_map, spans),
+        None => out.resize(out.len() + 189, 0),
+    }
+    put_span(&mut out, spans[MAIN_CONFIG]);
+    put_span(&mut out, spans[MAIN_DATA]);
+    put_chunk(&mut out, spans[ALPHA_CONFIG]);
+    put_span(&mut out, spans[ALPHA_DATA]);
+    out.push(image.exif_xmp_compressed as u8);
+    put_chunk(&mut out, spans[EXIF]);
+    put_chunk(&mut out, spans[XMP]);
+    assert_eq!(out.len(), RECORD_LEN);
+    out
 }
 
 fn put_types(out: &mut Vec<u8>, image: &MinimizedImage) {

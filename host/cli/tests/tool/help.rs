@@ -2,7 +2,9 @@
 
 use crate::folder::{Folder, assert_within_80_columns};
 
-const COMMANDS: [&str; 6] = ["show", "explain", "check", "shrink", "expand", "same"];
+const COMMANDS: [&str; 7] = [
+    "show", "explain", "check", "shrink", "expand", "restore", "same",
+];
 
 #[test]
 fn help_for_all() {

@@ -9,6 +9,7 @@ mod json;
 mod payloads;
 mod pipes;
 mod readme;
+mod restore;
 mod same;
 mod script;
 mod show;

@@ -102,8 +102,9 @@ fn the_readme_shows_what_the_tool_prints() {
         );
         tried += 1;
     }
-    assert_eq!(tried, 9, "commands of the README");
+    assert_eq!(tried, 11, "commands of the README");
     let saved = folder.get("examples/finish.hif").len() - folder.get("shrunk.hif").len();
     assert_eq!(saved, 6, "bytes that shrinking saves");
     assert_eq!(&folder.get("finish.avif")[4..12], b"ftypavif");
+    assert_eq!(folder.get("restored.hif"), folder.get("shrunk.hif"));
 }

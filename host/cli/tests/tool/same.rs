@@ -16,13 +16,13 @@ const UNDER_ONE_TYPE: &str = "under one file type they expand to one file\n";
 const MIF3: &[u8] = b"mif3\0\0\0\0mif3";
 
 /// What follows the header is all one byte.
-fn payload(plan: &Plan) -> Vec<u8> {
+pub fn payload(plan: &Plan) -> Vec<u8> {
     let header = plan.header();
     [header.bytes, vec![0xC0; header.chunks]].concat()
 }
 
 /// `TYPED` with a change.
-fn changed(change: impl FnOnce(&mut Plan)) -> Vec<u8> {
+pub fn changed(change: impl FnOnce(&mut Plan)) -> Vec<u8> {
     let mut plan = Plan::smallest();
     plan.types = Some([*b"av01", *b"av1C"]);
     change(&mut plan);
@@ -64,7 +64,7 @@ fn json(folder: &Folder, status: i32, pair: [&[u8]; 2]) -> Json {
     json
 }
 
-fn list(json: &Json) -> &[Json] {
+pub fn list(json: &Json) -> &[Json] {
     match json {
         Json::List(values) => values,
         other => panic!("no list: {other:?}"),
@@ -228,7 +228,7 @@ fn chunks_of_different_lengths() {
 }
 
 /// All that there is, and nothing of it as in the other of 0 and 1.
-fn full(n: u8) -> Plan {
+pub fn full(n: u8) -> Plan {
     let more = u32::from(n);
     let mut bodies = [4, 24, 5, 8, 20, 4].map(|len| Some(vec![n; len]));
     bodies[2].as_mut().expect("'cclv'")[0] = 0x10;

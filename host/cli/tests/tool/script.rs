@@ -70,19 +70,22 @@ const PROGRAMS: [&str; 20] = [
 
 const FIRST_RUN: &str = "\
 bustardcase: proving the library; from nothing it takes some minutes ...
-bustardcase: 1 of 5 proved: octets
-bustardcase: 2 of 5 proved: boxes
-bustardcase: 3 of 5 proved: exports
-bustardcase: 4 of 5 proved: exports_c
-bustardcase: 5 of 5 proved: exports_outline
+bustardcase: 1 of 6 proved: octets
+bustardcase: 2 of 6 proved: boxes
+bustardcase: 3 of 6 proved: exports
+bustardcase: 4 of 6 proved: exports_c
+bustardcase: 5 of 6 proved: exports_outline
+bustardcase: 6 of 6 proved: exports_find
 bustardcase: making libexports.a ...
 bustardcase: making libexports_outline.a ...
+bustardcase: making libexports_find.a ...
 bustardcase: building the tool ...
 ";
 
 const ALL_STEPS: &str = "\
 rt lib in exports_c
 rt lib in exports_outline
+rt lib in exports_find
 cargo build
 ";
 
@@ -138,9 +141,17 @@ impl Checkout {
     fn fill(&self) {
         let text = "# A comment.\noctets:\nboxes: octets # A comment.\nexports: octets boxes io\n\
                     vectors: exports\nexports_c staticlib: boxes exports\n\
-                    exports_outline staticlib: exports octets\n";
+                    exports_outline staticlib: exports octets\n\
+                    exports_find staticlib: exports octets\n";
         self.put("crates.txt", text);
-        for name in ["octets", "boxes", "exports", "exports_c", "exports_outline"] {
+        for name in [
+            "octets",
+            "boxes",
+            "exports",
+            "exports_c",
+            "exports_outline",
+            "exports_find",
+        ] {
             self.put(&format!("crates/{name}/src/lib.rt"), "");
         }
         self.put("crates/octets/must-fail/one.edit", "");
@@ -382,19 +393,28 @@ fn what_was_proved_before_counts_with_what_is_made_from_it() {
     let cases = [
         (
             "prove exports; prove exports_c",
-            "3 exports, 4 exports_c, 5 exports_outline",
+            "3 exports, 4 exports_c, 5 exports_outline, 6 exports_find",
         ),
         (
             "prove boxes; prove boxes; prove exports",
-            "2 boxes, 3 exports, 4 exports_outline",
+            "2 boxes, 3 exports, 4 exports_outline, 5 exports_find",
         ),
-        ("prove exports_c", "4 exports_c, 5 exports_outline"),
-        ("prove elsewhere; prove boxes", "2 boxes, 4 exports_outline"),
+        (
+            "prove exports_c",
+            "4 exports_c, 5 exports_outline, 6 exports_find",
+        ),
+        (
+            "prove elsewhere; prove boxes",
+            "2 boxes, 4 exports_outline, 5 exports_find",
+        ),
         (
             "echo logic=proved; prove octets; echo logic=proved",
-            "1 octets, 4 exports_outline",
+            "1 octets, 4 exports_outline, 5 exports_find",
         ),
-        ("echo rt: chose --jobs 2 for exports", "4 exports_outline"),
+        (
+            "echo rt: chose --jobs 2 for exports",
+            "4 exports_outline, 5 exports_find",
+        ),
     ];
     for (i, (said, counted)) in cases.into_iter().enumerate() {
         let checkout = Checkout::new(&format!("counted-{i}"));
@@ -403,10 +423,10 @@ fn what_was_proved_before_counts_with_what_is_made_from_it() {
         let mut lines: Vec<&str> = FIRST_RUN.split_inclusive('\n').collect();
         let counted = counted.split(", ").map(|line| {
             let (count, name) = line.split_once(' ').expect("a count");
-            format!("bustardcase: {count} of 5 proved: {name}\n")
+            format!("bustardcase: {count} of 6 proved: {name}\n")
         });
         let counted: String = counted.collect();
-        lines.splice(1..6, [counted.as_str()]);
+        lines.splice(1..7, [counted.as_str()]);
         checkout.assert_runs(&lines.concat());
     }
 }
@@ -606,6 +626,10 @@ fn what_rt_and_cargo_say_is_printed_where_they_fail() {
             fs::read(checkout.library("exports_outline")).expect("bytes"),
             b"whole\n"
         );
+        assert_eq!(
+            fs::read(checkout.library("exports_find")).expect("bytes"),
+            b"whole\n"
+        );
     }
 }
 
@@ -775,7 +799,7 @@ fn an_interrupt_ends_everything_and_leaves_nothing() {
         checkout.assert_nothing_is_left();
         checkout.no_more_at(step);
         assert_eq!(checkout.run(&[]).status, 0);
-        for name in ["exports", "exports_outline"] {
+        for name in ["exports", "exports_outline", "exports_find"] {
             assert_eq!(fs::read(checkout.library(name)).expect("bytes"), b"whole\n");
         }
     }
@@ -798,7 +822,7 @@ fn a_tool_that_is_half_built_is_not_used() {
 #[test]
 fn one_that_was_killed_leaves_nothing_that_is_used() {
     let checkout = Checkout::new("killed");
-    checkout.at("at-cp-exports_outline", &format!("{LINGER}exit 1\n"));
+    checkout.at("at-cp-exports_find", &format!("{LINGER}exit 1\n"));
     let mut first = checkout.start("first");
     let process = checkout.reached();
     first.child.kill().expect("it is killed");
@@ -809,9 +833,9 @@ fn one_that_was_killed_leaves_nothing_that_is_used() {
     second.waits();
     assert_eq!(
         checkout.notes(),
-        "rt lib in exports_c\nrt lib in exports_outline\n"
+        "rt lib in exports_c\nrt lib in exports_outline\nrt lib in exports_find\n"
     );
-    checkout.no_more_at("at-cp-exports_outline");
+    checkout.no_more_at("at-cp-exports_find");
     checkout.go_on();
     let (ended, said) = second.ends();
     assert_eq!(

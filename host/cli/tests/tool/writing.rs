@@ -121,6 +121,8 @@ fn the_original_file_type() {
     assert_eq!(&own[..28], b"\0\0\0\x1Cftypavif\0\0\0\0mif3heicmif1");
     let options = ["--minor", "0x61766966", "--brands", "mif3,heic"];
     assert_eq!(expanded(&options, TYPED), own);
+    let options = ["--minor", "avif", "--brands", "mif3,heic"];
+    assert_eq!(expanded(&options, TYPED), own);
     let options = ["--major=mif3", "--minor=1635150182", "--brands=mif3,heic"];
     assert_eq!(expanded(&options, &file(b"abcdefghijkl", TYPED)), own);
     assert_eq!(

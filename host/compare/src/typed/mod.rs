@@ -8,6 +8,7 @@ mod file_type;
 mod outline;
 mod payload;
 mod record;
+mod restored;
 
 use crate::report::Report;
 use bustardcase::Refusal;
@@ -16,7 +17,8 @@ use std::fmt::Debug;
 pub fn compare(report: &mut Report) -> Result<(), String> {
     boxes::compare(report)?;
     file_type::compare(report)?;
-    payload::compare(report)
+    payload::compare(report)?;
+    restored::compare(report)
 }
 
 fn same<T: PartialEq + Debug>(what: &str, ours: &T, expected: &T) -> Result<(), String> {
@@ -61,6 +63,7 @@ fn named(number: u64, bit: u64) -> Result<Refusal, String> {
         13 => Ok(Refusal::UuidCodecType),
         14 => Ok(Refusal::NoCodecTypes),
         15 => Ok(Refusal::Brands),
+        17 => Ok(Refusal::NotAnExpansion),
         28 => Ok(Refusal::NotAFileType),
         _ => Err(format!("no typed function gives refusal {number}")),
     }

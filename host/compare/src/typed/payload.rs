@@ -94,7 +94,8 @@ impl Run {
     /// All that is told of a payload that is read.
     fn told(&mut self, payload: &[u8], accepted: &Accepted) -> Result<(), String> {
         let image = bustardcase::read(payload).map_err(|r| format!("read: {r}"))?;
-        record::compare(payload, &image, accepted)?;
+        let spans = accepted.spans(payload)?;
+        record::compare(payload, &image, &accepted.image, &spans)?;
         let outline = bustardcase::outline(payload).map_err(|r| format!("outline: {r}"))?;
         outline::compare(payload, &outline, accepted)?;
         self.check(payload, accepted)?;
@@ -176,7 +177,7 @@ fn all_refuse(payload: &[u8], refused: &Refused) -> Result<(), String> {
     same_refusal("rewrite", bustardcase::rewrite(payload), number, bit)
 }
 
-fn typed(original: &OriginalType) -> FileType {
+pub fn typed(original: &OriginalType) -> FileType {
     let (brands, _) = original.brands.as_chunks();
     FileType {
         major_brand: FourCc(original.major.to_be_bytes()),

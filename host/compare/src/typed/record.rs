@@ -3,23 +3,29 @@
 
 use super::same;
 use bustardcase::{Chunk, FourCc, MiniGainMap, MiniHdrBoxes, MinimizedImage, SampleFormat};
-use oracle::reading::Accepted;
+use oracle::reading::Spans;
 use upstream::mini as theirs;
 
-pub fn compare(payload: &[u8], image: &MinimizedImage, accepted: &Accepted) -> Result<(), String> {
-    let their_image = told_theirs(&accepted.image);
-    same("the record", &told(payload, image), &their_image)?;
+/// `source` holds the chunks, at the places given in stored order.
+pub fn compare(
+    source: &[u8],
+    image: &MinimizedImage,
+    expected: &theirs::MinimizedImage,
+    spans: &Spans,
+) -> Result<(), String> {
+    let their_image = told_theirs(expected);
+    same("the record", &told(source, image), &their_image)?;
     same_format("the format", image.format, their_image.format)?;
     if let (Some(ours), Some(theirs)) = (&image.gain_map, &their_image.gain_map) {
         same_format("the gain map's format", ours.format, theirs.format)?;
     }
-    let places = accepted.spans(payload)?.map(|span| {
+    let places = spans.map(|span| {
         let (at, len) = span?;
         Some(Chunk { at, len })
     });
     same("where the chunks lie", &as_stored(image), &places)?;
     for chunk in places.into_iter().flatten() {
-        same_part(payload, chunk)?;
+        same_part(source, chunk)?;
     }
     Ok(())
 }
@@ -32,13 +38,13 @@ fn same_format(what: &str, ours: SampleFormat, theirs: theirs::SampleFormat) -> 
 
 /// A chunk that passes the bytes lent hands out the empty part at their start, any other its own bytes:
 /// document 01.
-fn same_part(payload: &[u8], chunk: Chunk) -> Result<(), String> {
-    for end in [chunk.at + chunk.len, payload.len() / 2] {
-        let lent = &payload[..end];
+fn same_part(source: &[u8], chunk: Chunk) -> Result<(), String> {
+    for end in [chunk.at + chunk.len, source.len() / 2] {
+        let lent = &source[..end];
         let fits = chunk.at + chunk.len <= end;
         let expected = match fits {
-            true => &payload[chunk.at..chunk.at + chunk.len],
-            false => &payload[..0],
+            true => &source[chunk.at..chunk.at + chunk.len],
+            false => &source[..0],
         };
         let part = chunk.of(lent);
         same("the chunk's bytes", &part, &expected)?;
@@ -66,8 +72,8 @@ fn as_stored(image: &MinimizedImage) -> [Option<Chunk>; 11] {
 }
 
 /// Our record in the supplied Rust's type: chunks as the bytes that are handed out.
-fn told(payload: &[u8], image: &MinimizedImage) -> theirs::MinimizedImage {
-    let bytes = |chunk: Chunk| chunk.of(payload).to_vec();
+fn told(source: &[u8], image: &MinimizedImage) -> theirs::MinimizedImage {
+    let bytes = |chunk: Chunk| chunk.of(source).to_vec();
     let code = |code: FourCc| code.0;
     theirs::MinimizedImage {
         explicit_codec_types: image
@@ -87,7 +93,7 @@ fn told(payload: &[u8], image: &MinimizedImage) -> theirs::MinimizedImage {
         alpha_premultiplied: image.alpha_premultiplied,
         hdr: image.hdr,
         hdr_boxes: boxes(&image.hdr_boxes),
-        gain_map: image.gain_map.as_ref().map(|g| gain_map(payload, g)),
+        gain_map: image.gain_map.as_ref().map(|g| gain_map(source, g)),
         main_codec_config: bytes(image.main_codec_config),
         main_data: bytes(image.main_data),
         alpha_codec_config: image.alpha_codec_config.map(bytes),
@@ -139,8 +145,8 @@ fn boxes(hdr: &MiniHdrBoxes) -> theirs::MiniHdrBoxes {
     )
 }
 
-fn gain_map(payload: &[u8], gain_map: &MiniGainMap) -> theirs::MiniGainMap {
-    let bytes = |chunk: Chunk| chunk.of(payload).to_vec();
+fn gain_map(source: &[u8], gain_map: &MiniGainMap) -> theirs::MiniGainMap {
+    let bytes = |chunk: Chunk| chunk.of(source).to_vec();
     theirs::MiniGainMap {
         width: gain_map.width,
         height: gain_map.height,

@@ -1,0 +1,4 @@
+pub mod Defaults
+pub mod Finds
+pub mod Laws
+pub mod Restores

@@ -1,0 +1,5 @@
+pub mod BackToMini
+pub mod Defaults
+pub mod Finds
+pub mod Restored
+pub mod Restores

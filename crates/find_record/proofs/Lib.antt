@@ -1,0 +1,9 @@
+pub mod EntryLaws
+pub mod FoundParts
+pub mod LocationLaws
+pub mod NumberLaws
+pub mod PlaceLaws
+pub mod SlotLaws
+pub mod SlotProperties
+pub mod WalkLaws
+pub mod Within

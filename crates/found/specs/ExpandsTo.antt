@@ -1,0 +1,13 @@
+-- When a record expands to a file (document 02, 3): expanding does not refuse it, and gives the file under the original file type. Nothing is asked of
+-- its source: a list that holds a number which is no byte makes no file that is one of bytes.
+use Rattle.std.specs.Prelude.{◌≡◌, List, ℕ}
+use Rattle.mini.specs.declared.MinimizedImage.{MinimizedImage}
+use Rattle.expander.specs.EquivalentFile.{file}
+use Rattle.expander.specs.Outcome.{refusal_of}
+
+-- a record, with its source, that expands to f
+pub record ExpandsTo (f : List ℕ) (major minor : ℕ) (brands : List ℕ) : Type 0 where
+  pub image : MinimizedImage
+  pub source : List ℕ
+  pub expands : refusal_of image source brands ≡ 0
+  pub gives : file image source major minor brands ≡ f
