@@ -2,7 +2,7 @@
 use Rattle.std.proofs.Common.{◌≡◌, refl, Bool, true, false, cond, List, [], ◌∷◌, ℕ, zero, suc, ◌≤◌, eqb, leb, length, drop, get_or, arith, length-drop, length-take-le, eqb-true, le-leb}
 use Rattle.octets.specs.Part.{part_of}
 use Rattle.boxes.specs.Header.{blank, header_refusal, header_or_blank, header_at}
-use Rattle.boxes.specs.Walk.{after, walk_up_to, walk, find, payload}
+use Rattle.boxes.specs.Walk.{after, walk_up_to, walk, payload}
 use Rattle.boxes.specs.WalkEnds.{advances}
 use Rattle.boxes.specs.declared.BoxHeader.{BoxHeader}
 
@@ -33,22 +33,10 @@ walked_within (suc n) s at = go (eqb (header_refusal (header_at s at)) 0) refl (
     go true e more = next (advances s at (eqb-true _ 0 e)).1 more
     go false e more = none
 
-first_within : (type : ℕ) {s : List ℕ} {hs : List BoxHeader} → AllWithin s hs → after (find type hs) ≤ length s
-first_within type none = omega arith
-first_within type {s} (next {h} {hs} k more) = go (eqb h.box_type type) (first_within type more)
-  where
-    go : (t : Bool) → after (find type hs) ≤ length s → after (cond t h (find type hs)) ≤ length s
-    go true later = k
-    go false later = later
-
 nth_within : {s : List ℕ} {hs : List BoxHeader} → AllWithin s hs → (n : ℕ) → after (get_or hs n blank) ≤ length s
 nth_within none n = omega arith
 nth_within (next k more) zero = k
 nth_within (next k more) (suc n) = nth_within more n
-
-pub find_within : (type : ℕ) (s : List ℕ) (at : ℕ) → after (find type (walk s at)) ≤ length s
-unfolding walk
-find_within type s at = first_within type (walked_within (length s) s at)
 
 pub numbered_within : (s : List ℕ) (at n : ℕ) → after (get_or (walk s at) n blank) ≤ length s
 unfolding walk

@@ -39,7 +39,7 @@ module _ (i : MinimizedImage) (s : List ℕ) where
 
 -- ---- the record found in the file that a record expands to
 module _ (f : List ℕ) (major minor : ℕ) (brands : List ℕ) (r : ExpandsTo f major minor brands) where
-  pub found_shortest : length (payload_of (found_record f) f) ≤ length (payload_of r.image r.source)
+  found_shortest : length (payload_of (found_record f) f) ≤ length (payload_of r.image r.source)
   found_shortest =
       rw (same_payload (found_record f) f (normal r.image r.source) r.source (found_normal f major minor brands r)) (normal_shortest r.image r.source)
 

@@ -1,5 +1,5 @@
--- When a record expands to a file (document 02, 3): expanding does not refuse it, and gives the file under the original file type. Nothing is asked of
--- its source: a list that holds a number which is no byte makes no file that is one of bytes.
+-- When a record expands to a file (document 02, 3): expanding does not refuse it, and gives the file under the original file type. Its source
+-- may be any list, also of numbers that are no bytes: 17 denies so much the more, and the source of a record found is the file itself.
 use Rattle.std.specs.Prelude.{◌≡◌, List, ℕ}
 use Rattle.mini.specs.declared.MinimizedImage.{MinimizedImage}
 use Rattle.expander.specs.EquivalentFile.{file}
