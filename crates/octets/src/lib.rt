@@ -36,15 +36,15 @@ pub fn put<const N: usize>(out: &mut [u8], at: usize, x: u64) -> usize
     end
 }
 
-// All of `src`.
-#[tactic(auto, using(crate::proofs::Copied::copied, std::proofs::Common::take_all))]
+// All of `src`. A loop: `copy_from_slice` calls `memmove`, which the libraries for C do not ask for.
 pub fn copy_in(out: &mut [u8], at: usize, src: &[u8]) -> usize
     requires { at + length src.now ≤ length out.old }
     ensures { Wrote out.old at (length src.now) src.now out.new result }
 {
-    let end = at + src.len();
-    out[at..end].copy_from_slice(src);
-    end
+    for (j, &byte) in src.iter().enumerate() {
+        out[at + j] = byte;
+    }
+    at + src.len()
 }
 
 // One byte, as often as asked for.

@@ -17,7 +17,7 @@ use header_reader::sizes::read_trailing_bits;
 use mini::{ChunkSizes, Header};
 use octets::{put, put_u8, put_zeros};
 use reader::image::image_of;
-use reader::parse;
+use reader::refusal;
 use refusals::Refusal;
 
 pub const DIAGNOSIS_LEN: usize = 321;
@@ -35,9 +35,9 @@ fn refusal_of(payload: &[u8]) -> (u8, usize)
     ensures refusal { result.0 ≡ (read_mini payload.now).refusal }
     ensures bit { result.1 ≡ (read_mini payload.now).bit }
 {
-    match parse(payload) {
-        Ok(_) => (0, 0),
-        Err(error) => (error.number(), error.value()),
+    match refusal(payload) {
+        Some(error) => (error.number(), error.value()),
+        None => (0, 0),
     }
 }
 

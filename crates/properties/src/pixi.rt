@@ -41,16 +41,11 @@ fn subsampling_type(subsampling: u8) -> u8
     }
 }
 
-// The chroma siting code.
+// The chroma siting code, as its definition has it.
 fn subsampling_location(chroma: MiniChroma) -> u8
     ensures { (result ≡ subsampling_location chroma.horizontally_centered chroma.vertically_centered) × (result ≤ 3) }
 {
-    match (chroma.horizontally_centered, chroma.vertically_centered) {
-        (true, true) => 1,
-        (true, false) => 3,
-        (false, true) => 0,
-        (false, false) => 2,
-    }
+    2 + u8::from(chroma.horizontally_centered) - 2 * u8::from(chroma.vertically_centered)
 }
 
 // No `From`: which channel it is, the chroma does not say.

@@ -1,13 +1,14 @@
 // The record that a header gives, with its chunks placed in the payload.
-ghost use Rattle.std.specs.Prelude.{◌≡◌, ◌+◌, ◌≤◌};
-ghost use Rattle.bits.specs.Run.{bit_index};
+ghost use Rattle.std.specs.Prelude.{◌≡◌, ◌+◌, ◌/◌, ◌≤◌};
+ghost use Rattle.bits.specs.Run.{bit_index, state};
 ghost use Rattle.bits.specs.State.{clean};
 ghost use Rattle.mini.specs.Chunks.{stored_sizes, stored_spans, first_past, span_if};
 ghost use Rattle.mini.specs.Image.{gain_map_of, image_of};
 ghost use Rattle.mini.specs.Cut.{sum};
 ghost use Rattle.mini.specs.Read.{reading_of, read_chunks};
+ghost use Rattle.reader.specs.Numbered.{reading_with, numbered, without_bit};
 
-use bits::{BitPos, ReadError, ReadErrorKind};
+use bits::{BitPos, Bits, ReadError, ReadErrorKind};
 use mini::{
     ChunkSizes, ChunkSpans, GainMapHeader, Header, MiniGainMap, MiniHdrBoxes, MinimizedImage, Span,
 };
@@ -162,19 +163,49 @@ pub fn image_of(h: Header, at: usize) -> MinimizedImage
     }
 }
 
-// The record of a header whose chunks begin at the byte boundary `at`: no header has more than 2,014 bits.
+// The refusal of a header whose chunks begin at the byte boundary `at`, where one of them ends past the payload: no header has more than 2,014 bits.
+pub fn chunk_past_end(at: BitPos, payload: &[u8], h: Header) -> Option<ReadError>
+    requires sizes_bound { sum (stored_sizes h.sizes) ≤ 2952790016 }
+    requires at_bound { bit_index at ≤ 2014 }
+    ensures { reading_with result (image_of h (bit_index at / 8)) ≡ read_chunks payload.now h (clean (bit_index at)) }
+{
+    let start = at.byte();
+    if payload.len() < start + chunks_len(h.sizes) {
+        let past = first_past(payload.len(), start, &stored_sizes(h.sizes));
+        return Some(ReadError {
+            kind: ReadErrorKind::ChunkPastEnd,
+            bit: 8 * past,
+        });
+    }
+    None
+}
+
+// The record of such a header.
 pub fn read_chunks(at: BitPos, payload: &[u8], h: Header) -> Result<MinimizedImage, ReadError>
     requires sizes_bound { sum (stored_sizes h.sizes) ≤ 2952790016 }
     requires at_bound { bit_index at ≤ 2014 }
     ensures { reading_of result ≡ read_chunks payload.now h (clean (bit_index at)) }
 {
-    let start = at.byte();
-    if payload.len() < start + chunks_len(h.sizes) {
-        let past = first_past(payload.len(), start, &stored_sizes(h.sizes));
-        return Err(ReadError {
-            kind: ReadErrorKind::ChunkPastEnd,
-            bit: 8 * past,
-        });
+    match chunk_past_end(at, payload, h) {
+        Some(error) => Err(error),
+        None => Ok(image_of(h, at.byte())),
     }
-    Ok(image_of(h, start))
+}
+
+// The same after any state, which may stand at any place and have met a refusal of any number: the record, or the number of the refusal. Of its bit
+// it says nothing, since a place may be too far on for a bit to be counted.
+pub fn read_chunks_after(b: Bits, payload: &[u8], h: Header) -> Result<MinimizedImage, u8>
+    requires sizes_bound { sum (stored_sizes h.sizes) ≤ 2952790016 }
+    requires refusal_bound { b.refusal ≤ 9 }
+    ensures { numbered result ≡ without_bit (read_chunks payload.now h (state b)) }
+{
+    if b.refusal != 0 {
+        return Err(b.refusal as u8);
+    }
+    let BitPos(bytes, bits) = b.at;
+    let over = bits / 8;
+    if payload.len() < bytes || payload.len() - bytes < over + chunks_len(h.sizes) {
+        return Err(ReadErrorKind::ChunkPastEnd as u8);
+    }
+    Ok(image_of(h, bytes + over))
 }

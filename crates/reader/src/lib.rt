@@ -3,6 +3,7 @@
 
 ghost use Rattle.std.specs.Prelude.{◌≡◌};
 ghost use Rattle.mini.specs.Read.{reading_of, read_mini};
+ghost use Rattle.reader.specs.Numbered.{told, without_record};
 
 pub mod chunks;
 pub mod image;
@@ -10,7 +11,7 @@ pub mod image;
 use bits::{Bits, ReadError};
 use header_reader::read_header;
 use header_reader::sizes::read_trailing_bits;
-use image::read_chunks;
+use image::{chunk_past_end, read_chunks};
 use mini::MinimizedImage;
 
 // The record of a payload, or why it is refused.
@@ -19,4 +20,16 @@ pub fn parse(payload: &[u8]) -> Result<MinimizedImage, ReadError>
 {
     let (header, b) = read_header(Bits::new(), payload);
     read_chunks(read_trailing_bits(b, payload).place()?, payload, header)
+}
+
+// Why a payload is refused, without its record: None where it is accepted. The outline's library has it beside `parse`, which stays in one piece
+// there while nothing else calls it (docs/DECISIONS.md, 19).
+pub fn refusal(payload: &[u8]) -> Option<ReadError>
+    ensures { told result ≡ without_record (read_mini payload.now) }
+{
+    let (header, b) = read_header(Bits::new(), payload);
+    match read_trailing_bits(b, payload).place() {
+        Ok(at) => chunk_past_end(at, payload, header),
+        Err(error) => Some(error),
+    }
 }

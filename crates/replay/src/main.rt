@@ -1,11 +1,12 @@
 // Replays recorded answers of the supplied Rust: each line of a table is one call, and what it answered. By `as`: no `From` leads from u64 to usize
-// or back.
+// or back. A table may be any bytes: a field is read as far as it is one, and a line that has too few of them goes on in the next.
 #![tactic(auto)]
 
-use anyhow::Context;
-use std::alloc::Global;
-use std::fs;
-use std::str::SplitWhitespace;
+ghost use Rattle.std.specs.Prelude.{◌≤◌, ◌<◌, length, IfOk, IfSome};
+
+use std::fs::File;
+use std::io::Read;
+use std::{fs, io};
 
 // What an output holds before the call.
 const FILLER: u8 = 0xa5;
@@ -13,105 +14,167 @@ const FILLER: u8 = 0xa5;
 // An answer is a refusal's number times this, plus a value: written out here, since the tables hold what callers see.
 const UNIT: u64 = 1 << 48;
 
-// The bytes of a field: hexadecimal, or '-' for none.
-fn bytes(alloc: Global, field: Option<&str>) -> anyhow::Result<Vec<u8>> {
-    let digits = field.context("bytes are missing")?;
-    if digits == "-" {
-        return Ok(Vec::new(alloc));
+// As many bytes of a table are read. Nothing is allocated, so a replay cannot run out of memory.
+const TABLE_LEN: usize = 262_144;
+
+// What comes after the first `end`; nothing where there is none.
+fn after(text: &[u8], end: u8) -> &[u8]
+    ensures { 0 < length text.now → length result.now < length text.now }
+{
+    match text.iter().position(|&b| b == end) {
+        Some(at) => &text[at + 1..],
+        None => &text[..0],
     }
-    Ok(hex::decode(alloc, digits)?)
 }
 
-// The number of a field.
-fn number(field: Option<&str>) -> anyhow::Result<u64> {
-    Ok(field.context("a number is missing")?.parse::<u64>()?)
+// The value of the hexadecimal digit at a place.
+fn digit(field: &[u8], at: usize) -> Option<u8>
+    ensures { IfSome result (λ x. x < 16) }
+{
+    match *field.get(at)? {
+        b @ b'0'..=b'9' => Some(b - b'0'),
+        b @ b'a'..=b'f' => Some(b - b'a' + 10),
+        _ => None,
+    }
 }
 
-// Whether a call with an output full of filler answers a refusal's number with its bit, or the length of the bytes that the rest of its line says,
-// and writes these, the filler after them.
+// The bytes of a field, pairs of hexadecimal digits, as far as these and the room go.
+fn bytes<'a>(field: &[u8], room: &'a mut [u8]) -> &'a [u8] {
+    for len in 0..room.len() {
+        let (Some(high), Some(low)) = (digit(field, 2 * len), digit(field, 2 * len + 1)) else {
+            return &room[..len];
+        };
+        room[len] = high * 16 + low;
+    }
+    room
+}
+
+// The number of a field, below 2^64.
+fn number(field: &[u8]) -> u64 {
+    let mut value: u64 = 0;
+    for b in field {
+        if !b.is_ascii_digit() || value > u64::MAX / 10 {
+            break;
+        }
+        value = (value * 10).wrapping_add(u64::from(b - b'0'));
+    }
+    value
+}
+
+// Whether a call with an output full of filler answers a refusal's number with its bit, or the length of the bytes that are wanted, and writes these,
+// the filler after them.
 fn agrees<F: FnOnce(&mut [u8]) -> u64>(
-    alloc: Global,
-    mut fields: SplitWhitespace,
     refusal: u64,
     bit: u64,
+    want: &[u8],
     out: &mut [u8],
     call: F,
-) -> anyhow::Result<bool>
+) -> bool
     requires { F.IsAlwaysCallable call }
 {
-    let want = bytes(alloc, fields.next())?;
-    let value = if refusal == 0 { want.len() as u64 } else { bit };
     let answer = call(out);
-    Ok(
-        answer / UNIT == refusal
-            && answer % UNIT == value
-            && out.starts_with(&want)
-            && out[want.len()..].iter().all(|&b| b == FILLER),
-    )
+    let value = if refusal == 0 { want.len() as u64 } else { bit };
+    answer / UNIT == refusal
+        && answer % UNIT == value
+        && (refusal == 0 || want.is_empty())
+        && out.starts_with(want)
+        && out[want.len()..].iter().all(|&b| b == FILLER)
 }
 
 // One line: a buffer, a start, the number of a refusal, and the header's bytes.
-fn box_header_agrees(alloc: Global, line: &str) -> anyhow::Result<bool> {
-    let mut fields = line.split_whitespace();
-    let buf = bytes(alloc, fields.next())?;
-    let start = number(fields.next())?;
-    let refusal = number(fields.next())?;
+fn box_header_agrees(line: &[u8]) -> bool {
+    let start = after(line, b' ');
+    let refusal = after(start, b' ');
+    let header = after(refusal, b' ');
+    let mut room = [0; 256];
+    let buf = bytes(line, &mut room);
     agrees(
-        alloc,
-        fields,
-        refusal,
+        number(refusal) % 256,
         0,
+        bytes(header, &mut [0; 64]),
         &mut [FILLER; 64],
-        |out| exports::bustardcase_box_header(&buf, start as usize, out),
+        |out| exports::bustardcase_box_header(buf, number(start) as usize, out),
     )
 }
 
 // One line: a payload, the number of a refusal and its bit, and the record's bytes.
-fn reading_agrees(alloc: Global, line: &str) -> anyhow::Result<bool> {
-    let mut fields = line.split_whitespace();
-    let payload = bytes(alloc, fields.next())?;
-    let refusal = number(fields.next())?;
-    let bit = number(fields.next())?;
+fn reading_agrees(line: &[u8]) -> bool {
+    let refusal = after(line, b' ');
+    let bit = after(refusal, b' ');
+    let record = after(bit, b' ');
+    let mut room = [0; 256];
+    let payload = bytes(line, &mut room);
     agrees(
-        alloc,
-        fields,
-        refusal,
-        bit,
+        number(refusal) % 256,
+        number(bit),
+        bytes(record, &mut [0; 512]),
         &mut [FILLER; 512],
-        |out| exports::bustardcase_read(&payload, out),
+        |out| exports::bustardcase_read(payload, out),
     )
 }
 
-// Replays each line of a table but the comments, which begin with '#'. A line that cannot be read counts as one that differs; a table that cannot be
-// read is told, and passed over.
-fn replay<F: Fn(Global, &str) -> anyhow::Result<bool>>(
+struct Tally {
+    lines: u64,
+    differ: u64,
+}
+
+// Replays each line of a table but the comments, which begin with '#'. Each is handed on with all that follows it.
+fn replay<F: Fn(&[u8]) -> bool>(table: &[u8], line_agrees: F) -> Tally
+    requires { F.IsAlwaysCallable line_agrees }
+{
+    let mut tally = Tally {
+        lines: 0,
+        differ: 0,
+    };
+    let mut rest = table;
+    while let Some(&first) = rest.first() {
+        if first != b'#' {
+            tally.lines = tally.lines.wrapping_add(1);
+            if !line_agrees(rest) {
+                tally.differ = tally.differ.wrapping_add(1);
+            }
+        }
+        rest = after(rest, b'\n');
+    }
+    tally
+}
+
+// Reads into `buf` until it is full or the file has no more, and says how many bytes there are.
+fn read_full(file: &mut File, buf: &mut [u8]) -> io::Result<usize>
+    ensures { IfOk result (λ n. n ≤ length buf.new) }
+{
+    let mut n = 0;
+    while n < buf.len() {
+        let more = file.read(&mut buf[n..])?;
+        if more == 0 {
+            break;
+        }
+        n += more;
+    }
+    Ok(n)
+}
+
+// A table that cannot be opened is told, and passed over.
+fn replay_file<F: Fn(&[u8]) -> bool>(
     rt: &HostRuntime,
     name: &str,
     path: &str,
     line_agrees: F,
-) -> anyhow::Result<()>
+) -> io::Result<()>
     requires { F.IsAlwaysCallable line_agrees }
 {
-    let alloc = rt.alloc();
-    let text = match fs::read_to_string(rt, path) {
-        Ok(text) => text,
-        Err(error) => {
-            eprintln!(rt; "{path}: {error}")?;
-            return Ok(());
+    let mut table = [0; TABLE_LEN];
+    match fs::open(rt, path) {
+        Ok(mut file) => {
+            let len = read_full(&mut file, &mut table)?;
+            let Tally { lines, differ } = replay(&table[..len], line_agrees);
+            println!(rt; "{name}: {lines} replayed, {differ} differ")
         }
-    };
-    let is_call = |line: &&str| !line.starts_with('#');
-    let lines = text.lines().filter(is_call).count();
-    let differ = text
-        .lines()
-        .filter(is_call)
-        .filter(|line| !line_agrees(alloc, line).unwrap_or(false))
-        .count();
-    println!(rt; "{name}: {lines} replayed, {differ} differ")?;
-    Ok(())
+        Err(error) => eprintln!(rt; "{path}: {error}"),
+    }
 }
 
-fn main(rt: HostRuntime) -> anyhow::Result<()> {
-    replay(&rt, "box headers", "box_headers.txt", box_header_agrees)?;
-    replay(&rt, "readings", "readings.txt", reading_agrees)
+fn main(rt: HostRuntime) -> io::Result<()> {
+    replay_file(&rt, "box headers", "box_headers.txt", box_header_agrees)?;
+    replay_file(&rt, "readings", "readings.txt", reading_agrees)
 }

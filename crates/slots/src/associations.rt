@@ -79,9 +79,9 @@ pub const GAIN_MAP_ROW: Row<6> = Row {
 pub struct UsedSlots(pub [bool; 33]);
 
 impl UsedSlots {
-    // Whether an association is kept, by the slot that it names.
-    fn keeps(self, association: u8) -> bool
-        ensures { result ≡ is_kept self.0 association }
+    // Whether an association is kept, by the slot that it names. By reference: by value the 33 flags are written anew for each association.
+    fn keeps(&self, association: u8) -> bool
+        ensures { result ≡ is_kept self.now.0 association }
     {
         self.0
             .get(usize::from(association % 128))
@@ -160,9 +160,9 @@ pub fn used_slots(image: MinimizedImage) -> UsedSlots
 
 // An association, where its slot is used.
 #[tactic(auto, using(octets::specs::OverwriteLaws::nothing))]
-fn put_association(out: &mut [u8], at: usize, used: UsedSlots, association: u8) -> usize
-    requires { at + one (is_kept used.0 association) ≤ length out.old }
-    ensures { Wrote out.old at (one (is_kept used.0 association)) (cond (is_kept used.0 association) (association ∷ []) []) out.new result }
+fn put_association(out: &mut [u8], at: usize, used: &UsedSlots, association: u8) -> usize
+    requires { at + one (is_kept used.now.0 association) ≤ length out.old }
+    ensures { Wrote out.old at (one (is_kept used.now.0 association)) (cond (is_kept used.now.0 association) (association ∷ []) []) out.new result }
 {
     if used.keeps(association) {
         put_u8(out, at, association)
@@ -179,7 +179,7 @@ fn put_kept(out: &mut [u8], at: usize, used: UsedSlots, associations: &[u8]) -> 
     // A loop, here and in slot.rt and groups.rt: after a `fold` nothing is known of an output that its closure changes.
     let mut next = at;
     for &association in associations {
-        next = put_association(out, next, used, association);
+        next = put_association(out, next, &used, association);
     }
     next
 }

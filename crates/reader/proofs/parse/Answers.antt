@@ -1,16 +1,8 @@
-use Rattle.std.proofs.Common.{arith, rules, List, ap, sym, ℕ, ◌∙◌, ◌≡◌}
-use Rattle.bits.specs.Run.{Run, state}
-use Rattle.bits.specs.State.{State, clean}
-use Rattle.mini.specs.Read.{past_trailing_bits, read_chunks, read_mini, Reading}
-use Rattle.mini.specs.Syntax.{header}
-use Rattle.mini.specs.declared.Header.{Header}
+use Rattle.std.proofs.Common.{arith, rules}
+use Rattle.bits.specs.Run.{state}
 use Rattle.reader.specs.Rules.{stuck_there, clean_there, before_told, before_near}
+use Rattle.reader.proofs.Whole.{whole}
 use Rattle.reader.proofs.parse.Goals as goal
-
--- past a header h and its trailing bits, at e, what the chunks give is what the payload gives
-whole : (s : List ℕ) {h : Header} {b e : State} {a : Reading} → Run header s (clean 0) h b → e ≡ past_trailing_bits s b → a ≡ read_chunks s h e → a ≡ read_mini s
-unfolding read_mini
-whole s {h} r f g = g ∙ ap (read_chunks s h) f ∙ ap (λ (x : Header × State). read_chunks s x.0 (past_trailing_bits s x.1)) (sym r.eq)
 
 pub place-requires : goal.place-requires
 unfolding state

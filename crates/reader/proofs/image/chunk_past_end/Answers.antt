@@ -1,11 +1,11 @@
-use Rattle.std.proofs.Common.{ap, arith, le-leb, refl, length, ◌*◌, ◌+◌, ◌∙◌}
+use Rattle.std.proofs.Common.{ap, arith, le-leb, refl, length, ℕ, ◌*◌, ◌+◌, ◌∙◌}
 use borrow.Author.Tests.{lt-leb}
 use Rattle.bits.specs.State.{clean}
 use Rattle.mini.specs.Chunks.{stored_sizes}
 use Rattle.mini.specs.Cut.{sum, first_past-sum}
-use Rattle.mini.specs.declared.MinimizedImage.{MinimizedImage}
+use Rattle.mini.specs.Image.{image_of}
 use Rattle.reader.specs.Rules.{chunks_there, chunks_short}
-use Rattle.reader.proofs.image.read_chunks.Goals as goal
+use Rattle.reader.proofs.image.chunk_past_end.Goals as goal
 
 pub overflow_mul-result : goal.overflow_mul-result
 overflow_mul-result c =
@@ -28,6 +28,6 @@ pub returns : goal.returns
 returns c =
     let a = c.args in
     let at = c.byte-start.result in
-    ap (λ (i : MinimizedImage). record { refusal = 0; bit = 0; image = i }) c.image_of.ensures
+    ap (λ (k : ℕ). record { refusal = 0; bit = 0; image = image_of a.h k }) (omega arith)
     ∙ chunks_there a.payload.now a.h (clean (a.at.0 * 8 + a.at.1)) at refl (omega arith)
     (le-leb (at + sum (stored_sizes a.h.sizes)) (length a.payload.now) (omega (arith, c.chunks_len.ensures)))
