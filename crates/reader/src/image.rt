@@ -1,5 +1,5 @@
 // The record that a header gives, with its chunks placed in the payload.
-ghost use Rattle.std.specs.Prelude.{◌≡◌, ◌+◌, ◌/◌, ◌≤◌};
+ghost use Rattle.std.specs.Prelude.{◌≡◌, ◌+◌, ◌/◌, ◌≤◌, IfErr};
 ghost use Rattle.bits.specs.Run.{bit_index, state};
 ghost use Rattle.bits.specs.State.{clean};
 ghost use Rattle.mini.specs.Chunks.{stored_sizes, stored_spans, first_past, span_if};
@@ -197,7 +197,8 @@ pub fn read_chunks(at: BitPos, payload: &[u8], h: Header) -> Result<MinimizedIma
 pub fn read_chunks_after(b: Bits, payload: &[u8], h: Header) -> Result<MinimizedImage, u8>
     requires sizes_bound { sum (stored_sizes h.sizes) ≤ 2952790016 }
     requires refusal_bound { b.refusal ≤ 9 }
-    ensures { numbered result ≡ without_bit (read_chunks payload.now h (state b)) }
+    ensures reading { numbered result ≡ without_bit (read_chunks payload.now h (state b)) }
+    ensures not_zero { IfErr result (λ n. n ≡ 0 → ⊥) }
 {
     if b.refusal != 0 {
         return Err(b.refusal as u8);

@@ -22,8 +22,8 @@ pub fn parse(payload: &[u8]) -> Result<MinimizedImage, ReadError>
     read_chunks(read_trailing_bits(b, payload).place()?, payload, header)
 }
 
-// Why a payload is refused, without its record: None where it is accepted. The outline's library has it beside `parse`, which stays in one piece
-// there while nothing else calls it (docs/DECISIONS.md, 19).
+// Why a payload is refused, without its record: None where it is accepted. The diagnosis asks for no more, and so `parse` has one caller in its
+// library (docs/DECISIONS.md, 19).
 pub fn refusal(payload: &[u8]) -> Option<ReadError>
     ensures { told result ≡ without_record (read_mini payload.now) }
 {

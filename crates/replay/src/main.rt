@@ -14,7 +14,7 @@ const FILLER: u8 = 0xa5;
 // An answer is a refusal's number times this, plus a value: written out here, since the tables hold what callers see.
 const UNIT: u64 = 1 << 48;
 
-// As many bytes of a table are read. Nothing is allocated, so a replay cannot run out of memory.
+// At most so many bytes of a table are read. Nothing is allocated, so a replay cannot run out of memory.
 const TABLE_LEN: usize = 262_144;
 
 // What comes after the first `end`; nothing where there is none.
@@ -61,8 +61,8 @@ fn number(field: &[u8]) -> u64 {
     value
 }
 
-// Whether a call with an output full of filler answers a refusal's number with its bit, or the length of the bytes that are wanted, and writes these,
-// the filler after them.
+// Whether a call with an output full of filler answers a refusal's number with its bit, and writes nothing, none being wanted; or, where the number is 0,
+// the length of the bytes that are wanted, whatever the bit, and writes these, the filler after them.
 fn agrees<F: FnOnce(&mut [u8]) -> u64>(
     refusal: u64,
     bit: u64,

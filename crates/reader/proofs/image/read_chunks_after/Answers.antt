@@ -9,13 +9,13 @@ use Rattle.reader.specs.Rules.{chunks_stuck, chunks_there, chunks_short}
 use Rattle.reader.proofs.image.read_chunks_after.Goals as goal
 use Rattle.reader.proofs.image.read_chunks_after.Goals.{then-payload-bytes-via-then-payload-bytes, then-payload-bytes-via-else-payload-bytes+then-payload-bytes-2}
 
-pub returns-then-b-ne0 : goal.returns-then-b-ne0
+pub returns-then-b-ne0-clause-reading : goal.returns-then-b-ne0-clause-reading
 unfolding state
-returns-then-b-ne0 c = ap without_bit (chunks_stuck c.args.payload.now c.args.h (state c.args.b) (λ e. omega (arith, c.if-b-ne0.true, e)))
+returns-then-b-ne0-clause-reading c = ap without_bit (chunks_stuck c.args.payload.now c.args.h (state c.args.b) (λ e. omega (arith, c.if-b-ne0.true, e)))
 
-pub returns-then-payload-bytes : goal.returns-then-payload-bytes
+pub returns-then-payload-bytes-clause-reading : goal.returns-then-payload-bytes-clause-reading
 unfolding state
-returns-then-payload-bytes c =
+returns-then-payload-bytes-clause-reading c =
     let a = c.args in
     let at = a.b.at.0 + a.b.at.1 / 8 in
     ap without_bit
@@ -26,9 +26,9 @@ returns-then-payload-bytes c =
       | then-payload-bytes-via-else-payload-bytes+then-payload-bytes-2 w ↦ omega (arith, w.chunks_len.ensures, w.if-payload-bytes.false, w.if-payload-bytes-2.true)
     ])))
 
-pub returns : goal.returns
+pub returns-clause-reading : goal.returns-clause-reading
 unfolding state
-returns c =
+returns-clause-reading c =
     let a = c.args in
     let at = a.b.at.0 + a.b.at.1 / 8 in
     ap (λ (i : MinimizedImage). (0, i)) c.image_of.ensures
