@@ -1,3 +1,3 @@
 pub mod Rules
 pub mod ChunkPart
-pub mod Numbered
+pub mod ReadingParts

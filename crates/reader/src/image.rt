@@ -6,7 +6,7 @@ ghost use Rattle.mini.specs.Chunks.{stored_sizes, stored_spans, first_past, span
 ghost use Rattle.mini.specs.Image.{gain_map_of, image_of};
 ghost use Rattle.mini.specs.Cut.{sum};
 ghost use Rattle.mini.specs.Read.{reading_of, read_chunks};
-ghost use Rattle.reader.specs.Numbered.{reading_with, numbered, without_bit};
+ghost use Rattle.reader.specs.ReadingParts.{reading_with, number_and_record, without_bit};
 
 use bits::{BitPos, Bits, ReadError, ReadErrorKind};
 use mini::{
@@ -197,7 +197,7 @@ pub fn read_chunks(at: BitPos, payload: &[u8], h: Header) -> Result<MinimizedIma
 pub fn read_chunks_after(b: Bits, payload: &[u8], h: Header) -> Result<MinimizedImage, u8>
     requires sizes_bound { sum (stored_sizes h.sizes) ≤ 2952790016 }
     requires refusal_bound { b.refusal ≤ 9 }
-    ensures reading { numbered result ≡ without_bit (read_chunks payload.now h (state b)) }
+    ensures reading { number_and_record result ≡ without_bit (read_chunks payload.now h (state b)) }
     ensures not_zero { IfErr result (λ n. n ≡ 0 → ⊥) }
 {
     if b.refusal != 0 {

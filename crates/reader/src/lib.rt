@@ -3,7 +3,7 @@
 
 ghost use Rattle.std.specs.Prelude.{◌≡◌};
 ghost use Rattle.mini.specs.Read.{reading_of, read_mini};
-ghost use Rattle.reader.specs.Numbered.{told, without_record};
+ghost use Rattle.reader.specs.ReadingParts.{number_and_bit, without_record};
 
 pub mod chunks;
 pub mod image;
@@ -25,7 +25,7 @@ pub fn parse(payload: &[u8]) -> Result<MinimizedImage, ReadError>
 // Why a payload is refused, without its record: None where it is accepted. The diagnosis asks for no more, and so `parse` has one caller in its
 // library (docs/DECISIONS.md, 19).
 pub fn refusal(payload: &[u8]) -> Option<ReadError>
-    ensures { told result ≡ without_record (read_mini payload.now) }
+    ensures { number_and_bit result ≡ without_record (read_mini payload.now) }
 {
     let (header, b) = read_header(Bits::new(), payload);
     match read_trailing_bits(b, payload).place() {

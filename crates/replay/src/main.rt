@@ -150,7 +150,8 @@ fn replay<F: Fn(&[u8]) -> bool>(table: &[u8], line_agrees: F) -> Tally
     tally
 }
 
-// Reads into `buf` until it is full or the file has no more, and says how many bytes there are.
+// Reads into `buf` until it is full or the file has no more, and says how many bytes there are. A `while`, since a read may give fewer than are asked
+// for; `read_to_end` would take memory.
 fn read_full(file: &mut File, buf: &mut [u8]) -> io::Result<usize>
     ensures { IfOk result (λ n. n ≤ length buf.new) }
 {

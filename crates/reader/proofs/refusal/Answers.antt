@@ -1,8 +1,8 @@
 use Rattle.std.proofs.Common.{arith, ap, ◌∙◌}
 use Rattle.bits.specs.Run.{state}
-use Rattle.reader.specs.Numbered.{without_record}
+use Rattle.reader.specs.ReadingParts.{without_record}
 use Rattle.reader.specs.Rules.{stuck_there, clean_there, before_told, before_near}
-use Rattle.reader.proofs.Whole.{whole, told_with}
+use Rattle.reader.proofs.Whole.{whole, number_and_bit_with}
 use Rattle.reader.proofs.refusal.Goals as goal
 
 pub place-requires : goal.place-requires
@@ -27,7 +27,7 @@ pub returns-in-Ok : goal.returns-in-Ok
 unfolding state
 returns-in-Ok c =
     let d = c.in-Ok.ensures in
-    told_with c.chunk_past_end.result _
+    number_and_bit_with c.chunk_past_end.result _
     ∙ ap without_record
     (whole _ (rw c.new.ensures at c.read_header.ensures.run) c.read_trailing_bits.ensures
     (clean_there c.args.payload.now c.read_header.result.0 (state c.read_trailing_bits.result) d.0 (rw d.1) c.chunk_past_end.ensures))

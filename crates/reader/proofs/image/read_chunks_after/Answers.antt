@@ -4,7 +4,7 @@ use Rattle.bits.specs.Run.{state}
 use Rattle.mini.specs.Chunks.{stored_sizes}
 use Rattle.mini.specs.Cut.{sum}
 use Rattle.mini.specs.declared.MinimizedImage.{MinimizedImage}
-use Rattle.reader.specs.Numbered.{without_bit}
+use Rattle.reader.specs.ReadingParts.{without_bit}
 use Rattle.reader.specs.Rules.{chunks_stuck, chunks_there, chunks_short}
 use Rattle.reader.proofs.image.read_chunks_after.Goals as goal
 use Rattle.reader.proofs.image.read_chunks_after.Goals.{then-payload-bytes-via-then-payload-bytes, then-payload-bytes-via-else-payload-bytes+then-payload-bytes-2}

@@ -13,17 +13,17 @@ reading_with None image = record { refusal = 0; bit = 0; image = image }
 reading_with (Some e) image = reading_of (Err e)
 
 -- the number of a refusal and its bit, both 0 for none
-abbrev pub told : Option ReadError → ℕ × ℕ
-told None = (0, 0)
-told (Some e) = (number e, e.bit)
+abbrev pub number_and_bit : Option ReadError → ℕ × ℕ
+number_and_bit None = (0, 0)
+number_and_bit (Some e) = (number e, e.bit)
 
 abbrev pub without_record : Reading → ℕ × ℕ
 without_record r = (r.refusal, r.bit)
 
 -- 0 with the record, or the number of a refusal with the blank one
-abbrev pub numbered : Result MinimizedImage ℕ → ℕ × MinimizedImage
-numbered (Ok image) = (0, image)
-numbered (Err n) = (n, blank_image)
+abbrev pub number_and_record : Result MinimizedImage ℕ → ℕ × MinimizedImage
+number_and_record (Ok image) = (0, image)
+number_and_record (Err n) = (n, blank_image)
 
 abbrev pub without_bit : Reading → ℕ × MinimizedImage
 without_bit r = (r.refusal, r.image)
